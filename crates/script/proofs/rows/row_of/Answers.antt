@@ -1,0 +1,15 @@
+use mathlib.Core.Path.{refl, sym}
+use lib.ListN.{getD, length}
+use Prim.Native.Nat.{_≤_}
+use native.Mathlib.Omega.{arith}
+use Rattle.std.proofs.shelf.Lists.{getD-past}
+use Rattle.script.specs.Rows.{rowOf, rows, unknown}
+use Rattle.script.proofs.rows.row_of.Needs as need
+
+pub returns-then-kind-lt32 : need.returns-then-kind-lt32
+unfolding rowOf
+returns-then-kind-lt32 c = refl
+
+pub returns-else-kind-lt32 : need.returns-else-kind-lt32
+unfolding rowOf
+returns-else-kind-lt32 c = sym (getD-past rows (c .args .kind) unknown (c .if-kind-lt32 .left))

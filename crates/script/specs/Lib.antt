@@ -1,0 +1,6 @@
+pub mod Sequence
+pub mod Refusals
+pub mod Rows
+pub mod Shape
+pub mod EndBay
+pub mod ShapeCases
