@@ -1,10 +1,10 @@
 -- The table of kinds: what a record of each kind is, the bounds of its fields, and its parts.
 use mathlib.Core.List.{List, [], _∷_, _++_}
 use mathlib.Core.Bool.{Bool, true, false, _||_}
-use Prim.Native.Nat.{ℕ}
+use Prim.Native.Nat.{ℕ, _+_}
 use lib.Dec.{eqb, leb}
 use lib.IntN.{ℤ, pos, negsuc}
-use lib.ListN.{getD, length, replicate}
+use lib.ListN.{getD, replicate}
 use Rattle.script.specs.declared.record.Record.{Record}
 use Rattle.script.specs.declared.rows.Sort.{Sort}
 use Rattle.script.specs.declared.rows.Sort.the-variants.{
@@ -137,6 +137,6 @@ wants row r =
     replicate (amount (row .first .count) r) (row .first .sort)
     ++ replicate (amount (row .second .count) r) (row .second .sort)
 
--- how many parts a record has by its row
+-- how many parts a record has by its row: its first ones and its second ones
 abbrev pub partCount : Record → ℕ
-partCount r = length (wants (rowOf (r .kind)) r)
+partCount r = amount (rowOf (r .kind) .first .count) r + amount (rowOf (r .kind) .second .count) r

@@ -1,8 +1,7 @@
 -- Worked cases of the shape check, about its definitions.
 use mathlib.Core.Path.{_≡_}
-use mathlib.Core.List.{List, [], _∷_, _++_}
-use lib.IntN.{pos}
-use lib.ListN.{drop, replicate, set, take}
+use mathlib.Core.List.{[], _∷_, _++_}
+use lib.ListN.{replicate, set, take}
 use Rattle.std.specs.declared.result.Result.the-variants.{Ok}
 use Rattle.script.specs.EndBay.{endBay, node}
 use Rattle.script.specs.Refusals.{RefusedWith}

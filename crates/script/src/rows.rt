@@ -1,6 +1,8 @@
 // The table of kinds: what a record of each kind is, the bounds of its fields, and its parts.
 ghost use mathlib.Core.Path.{_≡_};
-ghost use Rattle.script.specs.Rows.{rowOf, amount, partCount, suits, within};
+ghost use Prim.Native.Nat.{_<_};
+ghost use lib.ListN.{getD};
+ghost use Rattle.script.specs.Rows.{rows, rowOf, unknown, amount, partCount, suits, within};
 use crate::record::Record;
 
 // What a record is. `Declaration` is only ever wanted: a variable declaration or a function suits it.
@@ -294,14 +296,18 @@ pub const ROWS: &[Row; 32] = &[
     UNKNOWN,
 ];
 
+fn listed_row(kind: u8) -> Row
+    requires { ⌜ kind < 32 ⌝ }
+    ensures { λ r. ⌜ r ≡ getD rows kind unknown ⌝ }
+{
+    ROWS[kind as usize]
+}
+
+// The row of any kind; a kind past the table is unknown too.
 pub fn row_of(kind: u8) -> Row
     ensures { λ r. ⌜ r ≡ rowOf kind ⌝ }
 {
-    if kind < 32 {
-        ROWS[kind as usize]
-    } else {
-        UNKNOWN
-    }
+    if kind < 32 { listed_row(kind) } else { UNKNOWN }
 }
 
 // How many parts follow a record, by its row.

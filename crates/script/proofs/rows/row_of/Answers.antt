@@ -1,14 +1,11 @@
-use mathlib.Core.Path.{refl, sym}
-use lib.ListN.{getD, length}
-use Prim.Native.Nat.{_≤_}
-use native.Mathlib.Omega.{arith}
+use mathlib.Core.Path.{sym}
 use Rattle.std.proofs.shelf.Lists.{getD-past}
 use Rattle.script.specs.Rows.{rowOf, rows, unknown}
 use Rattle.script.proofs.rows.row_of.Needs as need
 
 pub returns-then-kind-lt32 : need.returns-then-kind-lt32
 unfolding rowOf
-returns-then-kind-lt32 c = refl
+returns-then-kind-lt32 c = c .listed-row .ensures
 
 pub returns-else-kind-lt32 : need.returns-else-kind-lt32
 unfolding rowOf

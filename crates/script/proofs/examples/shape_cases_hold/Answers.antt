@@ -2,7 +2,7 @@ use mathlib.Core.Path.{refl}
 use Rattle.script.specs.Rows.{rowOf}
 use Rattle.script.specs.Shape.{consume}
 use Rattle.script.specs.ShapeCases.{ShapeCases}
-use Rattle.script.proofs.examples.end_bay_table.Needs as need
+use Rattle.script.proofs.examples.shape_cases_hold.Needs as need
 
 shape-cases : ShapeCases
 unfolding consume rowOf
@@ -19,4 +19,4 @@ shape-cases =
     }
 
 pub returns : need.returns
-returns c = record { table = refl; cases = shape-cases }
+returns c = shape-cases
