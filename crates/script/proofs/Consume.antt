@@ -42,7 +42,8 @@ one-after-other rs at [] vs = let e : at - at ≡ 0 = omega arith in rw e refl
 one-after-other [] at (w ∷ ws) vs = refl
 one-after-other (r ∷ rs) at (w ∷ ws) vs =
     elim (fitting w r at) as (λ q. andThen q (λ row. consume rs (suc at) (wants row r ++ (ws ++ vs)))
-    ≡ andThen (andThen q (λ row. consume rs (suc at) (wants row r ++ ws))) (λ n. consume (drop (n - at) (r ∷ rs)) n vs)) [
+    ≡ andThen (andThen q (λ row. consume rs (suc at) (wants row r ++ ws)))
+    (λ n. consume (drop (n - at) (r ∷ rs)) n vs)) [
       | Ok row ↦ ap (consume rs (suc at)) (sym (append-assoc (wants row r) ws vs))
           ∙ (one-after-other rs (suc at) (wants row r ++ ws) vs
           ∙ from-on rs (suc at) (wants row r ++ ws) _ _
@@ -89,7 +90,8 @@ one-part : (table : List Record) (at : ℕ) (w : Sort) (d : Record) → at < len
 unfolding consume
 one-part table at w d h =
     rw (drop-cons table at d h, add-one at)
-    (elim (fitting w (getD table at d) at) as (λ q. andThen q (λ row. from table (suc at) (wants row (getD table at d) ++ []))
+    (elim (fitting w (getD table at d) at) as (λ q.
+    andThen q (λ row. from table (suc at) (wants row (getD table at d) ++ []))
     ≡ andThen q (inner table (suc at) (getD table at d)))
     [ Ok row ↦ inner-is table (suc at) (getD table at d) row | Err e ↦ refl ])
 
@@ -97,7 +99,9 @@ one-part table at w d h =
 more-parts : (table : List Record) (at n : ℕ) (w : Sort) → 0 < n →
     from table at (replicate n w) ≡ andThen (from table at (w ∷ [])) (λ k. from table k (replicate (n - 1) w))
 more-parts table at zero w h = absurd (omega arith)
-more-parts table at (suc n) w h = let e : suc n - 1 ≡ n = omega arith in rw e (after table at (w ∷ []) (replicate n w))
+more-parts table at (suc n) w h =
+    let e : suc n - 1 ≡ n = omega arith in
+    rw e (after table at (w ∷ []) (replicate n w))
 
 -- The ways out of the two functions: of a part, whose record does not fit or does,
 module _ (table : List Record) (at : ℕ) (w : Sort) (d : Record) (within : at < length table) where
@@ -111,8 +115,10 @@ module _ (table : List Record) (at : ℕ) (w : Sort) (d : Record) (within : at <
       q ∙ sym (one-part table at w d within ∙ ap (λ z. andThen z (inner table (at + 1) (getD table at d))) (sym p))
 
 -- of the parts of a record, refused among the first ones or not,
-module _ (table : List Record) (at : ℕ) (r : Record) (row : Row) (n : ℕ) (first-count : n ≡ amount (row .first .count) r) where
-  pub first-refused : (e : Refusal) → Err e ≡ from table at (replicate n (row .first .sort)) → Err e ≡ inner table at r row
+module _ (table : List Record) (at : ℕ) (r : Record) (row : Row) (n : ℕ)
+    (first-count : n ≡ amount (row .first .count) r) where
+  pub first-refused : (e : Refusal) → Err e ≡ from table at (replicate n (row .first .sort)) →
+      Err e ≡ inner table at r row
   unfolding inner
   first-refused e p = rw (← first-count, ← p) refl
 

@@ -1,3 +1,4 @@
+-- Each worked case is computed.
 use mathlib.Core.Path.{refl}
 use Rattle.script.specs.Rows.{rowOf}
 use Rattle.script.specs.Shape.{consume}

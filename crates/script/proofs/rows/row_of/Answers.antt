@@ -1,3 +1,4 @@
+-- A kind in the table has its row there, and one past it the unknown row.
 use mathlib.Core.Path.{sym}
 use Rattle.std.proofs.shelf.Lists.{getD-past}
 use Rattle.script.specs.Rows.{rowOf, rows, unknown}

@@ -1,3 +1,4 @@
+-- The ways out of `part` and `parts`, each by its law of `consume`.
 use mathlib.Core.Path.{sym}
 use native.Mathlib.Omega.{arith}
 use Prim.Native.Nat.{_<_, _≤_}

@@ -1,3 +1,4 @@
+-- A part reads a record before it asks for its parts, so the records left fall; `parts` counts one more than `part`.
 use Prim.Native.Nat.{_+_, _*_, _-_}
 use lib.ListN.{length}
 use Rattle.script.proofs.shape.+part+parts.Given as given
