@@ -296,6 +296,7 @@ pub const ROWS: &[Row; 32] = &[
     UNKNOWN,
 ];
 
+// The row of a kind that the table has.
 fn listed_row(kind: u8) -> Row
     requires { ⌜ kind < 32 ⌝ }
     ensures { λ r. ⌜ r ≡ getD rows kind unknown ⌝ }
