@@ -17,6 +17,9 @@ use Rattle.script.specs.declared.rows.Sort.the-variants.{
   Program,
   Declaration,
 }
+use Rattle.script.specs.declared.rows.Operator.the-variants.{Sum, Difference, Greater}
+use Rattle.script.specs.declared.rows.NodeKind.{NodeKind}
+use Rattle.script.specs.declared.rows.NodeKind.the-variants as is
 use Rattle.script.specs.declared.rows.Row.{Row}
 use Rattle.script.specs.declared.rows.Parts.{Parts}
 use Rattle.script.specs.declared.rows.Bound.{Bound}
@@ -45,44 +48,44 @@ one s = several (Fixed 1) s
 abbrev pub two : Sort → Parts
 two s = several (Fixed 2) s
 
--- a row: the sort, the bounds of the fields a and v, and the parts, first ones first
-abbrev pub row : Sort → Bound → Bound → Parts → Parts → Row
-row s a v p q = record { sort = s; a = a; v = v; first = p; second = q }
+-- a row: the node, its sort, the bounds of the fields a and v, and the parts, first ones first
+abbrev pub row : NodeKind → Sort → Bound → Bound → Parts → Parts → Row
+row k s a v p q = record { node = k; sort = s; a = a; v = v; first = p; second = q }
 
 abbrev pub unknown : Row
-unknown = row Unknown blank blank none none
+unknown = row is.Unknown Unknown blank blank none none
 
 -- The rows of the kinds 0 to 31, in order.
 abbrev pub rows : List Row
 rows =
     unknown
     -- 1 number, 2 variable
-    ∷ row Expression blank Any none none
-    ∷ row Expression name blank none none
+    ∷ row is.Number Expression blank Any none none
+    ∷ row is.Variable Expression name blank none none
     -- 3 sum, 4 difference, 5 greater
-    ∷ row Expression blank blank (two Expression) none
-    ∷ row Expression blank blank (two Expression) none
-    ∷ row Expression blank blank (two Expression) none
+    ∷ row (is.TwoPart Sum) Expression blank blank (two Expression) none
+    ∷ row (is.TwoPart Difference) Expression blank blank (two Expression) none
+    ∷ row (is.TwoPart Greater) Expression blank blank (two Expression) none
     -- 6 assignment, 7 call, 8 bay read, 9 bay write
-    ∷ row Expression name blank (one Expression) none
-    ∷ row Expression name (UpTo 15) (several FieldV Expression) none
-    ∷ row Expression blank blank (one Expression) none
-    ∷ row Expression blank blank (two Expression) none
+    ∷ row is.Assignment Expression name blank (one Expression) none
+    ∷ row is.Call Expression name (UpTo 15) (several FieldV Expression) none
+    ∷ row is.BayRead Expression blank blank (one Expression) none
+    ∷ row is.BayWrite Expression blank blank (two Expression) none
     -- 10 to 15
     ∷ unknown ∷ unknown ∷ unknown ∷ unknown ∷ unknown ∷ unknown
     -- 16 expression statement, 17 if, 18 while, 19 return, 20 block
-    ∷ row Statement blank blank (one Expression) none
-    ∷ row Statement blank blank (one Expression) (two Statement)
-    ∷ row Statement blank blank (one Expression) (one Statement)
-    ∷ row Statement blank blank (one Expression) none
-    ∷ row Statement (UpTo 63) (UpTo 1023) (several FieldA Variable) (several FieldV Statement)
+    ∷ row is.ExpressionStatement Statement blank blank (one Expression) none
+    ∷ row is.If Statement blank blank (one Expression) (two Statement)
+    ∷ row is.While Statement blank blank (one Expression) (one Statement)
+    ∷ row is.Return Statement blank blank (one Expression) none
+    ∷ row is.Block Statement (UpTo 63) (UpTo 1023) (several FieldA Variable) (several FieldV Statement)
     -- 21 to 23
     ∷ unknown ∷ unknown ∷ unknown
     -- 24 variable declaration, 25 function, 26 parameter, 27 program
-    ∷ row Variable name Any none none
-    ∷ row Function name (UpTo 15) (several FieldV Parameter) (one Statement)
-    ∷ row Parameter name blank none none
-    ∷ row Program (UpTo 128) blank (several FieldA Declaration) (one Statement)
+    ∷ row is.VariableDeclaration Variable name Any none none
+    ∷ row is.Function Function name (UpTo 15) (several FieldV Parameter) (one Statement)
+    ∷ row is.Parameter Parameter name blank none none
+    ∷ row is.Program Program (UpTo 128) blank (several FieldA Declaration) (one Statement)
     -- 28 to 31
     ∷ unknown ∷ unknown ∷ unknown ∷ unknown
     ∷ []
@@ -90,6 +93,10 @@ rows =
 -- the row of a kind; a kind past the table is unknown
 unfoldable pub rowOf : ℕ → Row
 rowOf kind = getD rows kind unknown
+
+-- which node a record of a kind is
+abbrev pub nodeOf : ℕ → NodeKind
+nodeOf kind = rowOf kind .node
 
 -- the sorts numbered, to compare them
 abbrev pub rank : Sort → ℕ

@@ -30,6 +30,36 @@ impl Sort {
     }
 }
 
+// The operator of an expression with two parts.
+#[derive(Clone, Copy)]
+pub enum Operator {
+    Sum,
+    Difference,
+    Greater,
+}
+
+// Which node of the language a record is.
+#[derive(Clone, Copy)]
+pub enum NodeKind {
+    Unknown,
+    Number,
+    Variable,
+    TwoPart(Operator),
+    Assignment,
+    Call,
+    BayRead,
+    BayWrite,
+    ExpressionStatement,
+    If,
+    While,
+    Return,
+    Block,
+    VariableDeclaration,
+    Function,
+    Parameter,
+    Program,
+}
+
 // How many parts of one sort a record has: always as many, or as many as a field says.
 #[derive(Clone, Copy)]
 pub enum Count {
@@ -77,6 +107,7 @@ pub struct Parts {
 // A record's parts are its `first` parts, then its `second` parts.
 #[derive(Clone, Copy)]
 pub struct Row {
+    pub node: NodeKind,
     pub sort: Sort,
     pub a: Bound,
     pub v: Bound,
@@ -116,6 +147,7 @@ const TWO_STATEMENTS: Parts = Parts {
 };
 
 const UNKNOWN: Row = Row {
+    node: NodeKind::Unknown,
     sort: Sort::Unknown,
     a: BLANK,
     v: BLANK,
@@ -124,6 +156,7 @@ const UNKNOWN: Row = Row {
 };
 
 const NUMBER: Row = Row {
+    node: NodeKind::Number,
     sort: Sort::Expression,
     a: BLANK,
     v: Bound::Any,
@@ -132,6 +165,7 @@ const NUMBER: Row = Row {
 };
 
 const VARIABLE: Row = Row {
+    node: NodeKind::Variable,
     sort: Sort::Expression,
     a: NAME,
     v: BLANK,
@@ -139,8 +173,26 @@ const VARIABLE: Row = Row {
     second: NO_PARTS,
 };
 
-// Sum, difference and greater; a bay write has the same parts, slot and word.
-const TWO_PART: Row = Row {
+const SUM: Row = Row {
+    node: NodeKind::TwoPart(Operator::Sum),
+    sort: Sort::Expression,
+    a: BLANK,
+    v: BLANK,
+    first: TWO_EXPRESSIONS,
+    second: NO_PARTS,
+};
+
+const DIFFERENCE: Row = Row {
+    node: NodeKind::TwoPart(Operator::Difference),
+    sort: Sort::Expression,
+    a: BLANK,
+    v: BLANK,
+    first: TWO_EXPRESSIONS,
+    second: NO_PARTS,
+};
+
+const GREATER: Row = Row {
+    node: NodeKind::TwoPart(Operator::Greater),
     sort: Sort::Expression,
     a: BLANK,
     v: BLANK,
@@ -149,6 +201,7 @@ const TWO_PART: Row = Row {
 };
 
 const ASSIGNMENT: Row = Row {
+    node: NodeKind::Assignment,
     sort: Sort::Expression,
     a: NAME,
     v: BLANK,
@@ -157,6 +210,7 @@ const ASSIGNMENT: Row = Row {
 };
 
 const CALL: Row = Row {
+    node: NodeKind::Call,
     sort: Sort::Expression,
     a: NAME,
     v: ARGUMENTS,
@@ -168,6 +222,7 @@ const CALL: Row = Row {
 };
 
 const BAY_READ: Row = Row {
+    node: NodeKind::BayRead,
     sort: Sort::Expression,
     a: BLANK,
     v: BLANK,
@@ -175,9 +230,17 @@ const BAY_READ: Row = Row {
     second: NO_PARTS,
 };
 
-const BAY_WRITE: Row = TWO_PART;
+const BAY_WRITE: Row = Row {
+    node: NodeKind::BayWrite,
+    sort: Sort::Expression,
+    a: BLANK,
+    v: BLANK,
+    first: TWO_EXPRESSIONS,
+    second: NO_PARTS,
+};
 
 const EXPRESSION_STATEMENT: Row = Row {
+    node: NodeKind::ExpressionStatement,
     sort: Sort::Statement,
     a: BLANK,
     v: BLANK,
@@ -186,6 +249,7 @@ const EXPRESSION_STATEMENT: Row = Row {
 };
 
 const IF: Row = Row {
+    node: NodeKind::If,
     sort: Sort::Statement,
     a: BLANK,
     v: BLANK,
@@ -194,6 +258,7 @@ const IF: Row = Row {
 };
 
 const WHILE: Row = Row {
+    node: NodeKind::While,
     sort: Sort::Statement,
     a: BLANK,
     v: BLANK,
@@ -201,9 +266,17 @@ const WHILE: Row = Row {
     second: ONE_STATEMENT,
 };
 
-const RETURN: Row = EXPRESSION_STATEMENT;
+const RETURN: Row = Row {
+    node: NodeKind::Return,
+    sort: Sort::Statement,
+    a: BLANK,
+    v: BLANK,
+    first: ONE_EXPRESSION,
+    second: NO_PARTS,
+};
 
 const BLOCK: Row = Row {
+    node: NodeKind::Block,
     sort: Sort::Statement,
     a: Bound::UpTo(63),
     v: Bound::UpTo(1023),
@@ -218,6 +291,7 @@ const BLOCK: Row = Row {
 };
 
 const VARIABLE_DECLARATION: Row = Row {
+    node: NodeKind::VariableDeclaration,
     sort: Sort::Variable,
     a: NAME,
     v: Bound::Any,
@@ -226,6 +300,7 @@ const VARIABLE_DECLARATION: Row = Row {
 };
 
 const FUNCTION: Row = Row {
+    node: NodeKind::Function,
     sort: Sort::Function,
     a: NAME,
     v: ARGUMENTS,
@@ -237,6 +312,7 @@ const FUNCTION: Row = Row {
 };
 
 const PARAMETER: Row = Row {
+    node: NodeKind::Parameter,
     sort: Sort::Parameter,
     a: NAME,
     v: BLANK,
@@ -245,6 +321,7 @@ const PARAMETER: Row = Row {
 };
 
 const PROGRAM: Row = Row {
+    node: NodeKind::Program,
     sort: Sort::Program,
     a: Bound::UpTo(128),
     v: BLANK,
@@ -261,10 +338,10 @@ pub const ROWS: &[Row; 32] = &[
     UNKNOWN,
     NUMBER,
     VARIABLE,
-    // 3, 4, 5: sum, difference, greater
-    TWO_PART,
-    TWO_PART,
-    TWO_PART,
+    SUM,
+    // 4
+    DIFFERENCE,
+    GREATER,
     ASSIGNMENT,
     CALL,
     // 8
