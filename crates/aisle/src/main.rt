@@ -42,6 +42,13 @@ fn run(rt: &LibcRuntime) -> Result<(), AnyError> {
     Ok(())
 }
 
+// A text that cannot be read is told on standard error, and the program then ends with status 1.
 fn main(rt: LibcRuntime) -> Result<(), AnyError> {
-    rt.report(run(&rt))
+    match run(&rt) {
+        Ok(()) => Ok(()),
+        Err(error) => {
+            eprintln!(rt, "aisle: {error}")?;
+            Err(error)
+        }
+    }
 }
