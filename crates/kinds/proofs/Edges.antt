@@ -10,7 +10,7 @@ use Rattle.std.proofs.shelf.Tests.{le-leb}
 use Rattle.std.specs.shelf.Signed.{wrapped}
 use Rattle.kinds.specs.Rail.{rail}
 use Rattle.kinds.specs.Edges.{Counter-edges, Rail-edges}
-use Rattle.kinds.proofs.RailSlots.{literal-slot}
+use Rattle.kinds.proofs.Whole.{literal-slot}
 
 pub counter-edges : Counter-edges
 unfolding wrapped
@@ -33,7 +33,7 @@ not-greater (inf s) = refl
 not-greater (fin s m e) = refl
 
 minus-zero-is-zero : (e : ℤ) → rail .zero (fin true 0 e) ≡ true
-unfolding eq
+unfolding eq ofInt
 minus-zero-is-zero e = rw (zero-mul (up e), zero-mul (down e))
 
 pub rail-edges : Rail-edges

@@ -1,5 +1,5 @@
 pub mod Literals
 pub mod RailSums
 pub mod Laws
-pub mod RailSlots
+pub mod Whole
 pub mod Edges

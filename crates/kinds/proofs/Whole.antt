@@ -1,4 +1,4 @@
--- The test that the code makes for a rail slot is the definition's, and what slots literals name.
+-- What the code tests of a float to take it as a whole number is the definition's test.
 use mathlib.Core.Path.{_≡_, refl, sym, ap, _∙_}
 use mathlib.Core.Logic.{_⊎_, inl, inr}
 use mathlib.Core.Bool.{Bool, true, false, not, _&&_, _||_, cond}
@@ -24,7 +24,7 @@ use lib.Ieee.Fits.{down-pos, up-pos}
 use Rattle.std.specs.declared.option.Option.{Option}
 use Rattle.std.specs.declared.option.Option.the-variants.{Some, None}
 use Rattle.std.proofs.shelf.Tests.{cases-eq, cases-lt, le-leb, lt-leb, eq-eqb, ne-eqb}
-use Rattle.kinds.specs.Rail.{slotOfLength}
+use Rattle.kinds.specs.Rail.{wholeUpTo}
 use Rattle.kinds.proofs.Literals.{literal-value}
 
 and-false : (b : Bool) → (b && false) ≡ false
@@ -32,9 +32,9 @@ and-false true = refl
 and-false false = refl
 
 -- the test that the code makes
-abbrev tested : Float → Option ℕ
-tested x =
-    cond (eq (ofInt binary64 (pos (toUnsigned 16 x))) x && leb (toUnsigned 16 x) 4095) (Some (toUnsigned 16 x)) None
+abbrev tested : ℕ → Float → Option ℕ
+tested last x =
+    cond (eq (ofInt binary64 (pos (toUnsigned 16 x))) x && leb (toUnsigned 16 x) last) (Some (toUnsigned 16 x)) None
 
 whole-value : (n : ℕ) → n ≤ 65535 → HasValue (ofInt binary64 (pos n)) false n 1
 whole-value n h = literal-value (pos n) (omega arith)
@@ -87,28 +87,28 @@ eq-minus (fin t k g) m e v =
         rw (ne-eqb 0 (m * up e * down g) (λ k. omega arith), ne-eqb m 0 h)
 
 -- a size v / d: the code cuts it to 16 bits and compares back, the definition divides
-abbrev SizeTests : ℕ → ℕ → Type 0
-SizeTests v d =
-    cond (eqb (min (v / d) 65535 * d) v && leb (min (v / d) 65535) 4095) (Some (min (v / d) 65535)) None
-    ≡ cond (eqb (v % d) 0 && leb (v / d) 4095 && true) (Some (v / d)) None
+abbrev SizeTests : ℕ → ℕ → ℕ → Type 0
+SizeTests last v d =
+    cond (eqb (min (v / d) 65535 * d) v && leb (min (v / d) 65535) last) (Some (min (v / d) 65535)) None
+    ≡ cond (eqb (v % d) 0 && leb (v / d) last && true) (Some (v / d)) None
 
-size-tests : (v d : ℕ) → 0 < d → SizeTests v d
-size-tests v d h = go (cases-lt 4095 (v / d))
+size-tests : (last v d : ℕ) → last < 65535 → 0 < d → SizeTests last v d
+size-tests last v d h pos-d = go (cases-lt last (v / d))
   where
     parts : v / d * d + v % d ≡ v
     parts = div-add-mod' v d
 
-    go : (4095 < v / d) ⊎ (v / d ≤ 4095) → SizeTests v d
+    go : (last < v / d) ⊎ (v / d ≤ last) → SizeTests last v d
     go (inl l) =
-        let large : leb (v / d) 4095 ≡ false = lt-leb (v / d) 4095 l in
-        let cut : leb (min (v / d) 65535) 4095 ≡ false = lt-leb (min (v / d) 65535) 4095 (omega arith) in
+        let large : leb (v / d) last ≡ false = lt-leb (v / d) last l in
+        let cut : leb (min (v / d) 65535) last ≡ false = lt-leb (min (v / d) 65535) last (omega arith) in
         simp (large, cut, and-false)
     go (inr l) =
         let uncut : min (v / d) 65535 ≡ v / d = omega arith in
-        let small : leb (v / d) 4095 ≡ true = le-leb (v / d) 4095 l in
+        let small : leb (v / d) last ≡ true = le-leb (v / d) last l in
         at (cases-eq (v % d) 0) uncut small
       where
-        at : (v % d ≡ 0) ⊎ (v % d ≡ 0 → ⊥) → min (v / d) 65535 ≡ v / d → leb (v / d) 4095 ≡ true → SizeTests v d
+        at : (v % d ≡ 0) ⊎ (v % d ≡ 0 → ⊥) → min (v / d) 65535 ≡ v / d → leb (v / d) last ≡ true → SizeTests last v d
         at (inl z) uncut small =
             let back : eqb (v / d * d) v ≡ true = eq-eqb (v / d * d) v (omega arith) in
             let whole : eqb (v % d) 0 ≡ true = eq-eqb (v % d) 0 z in
@@ -118,46 +118,46 @@ size-tests v d h = go (cases-lt 4095 (v / d))
             let whole : eqb (v % d) 0 ≡ false = ne-eqb (v % d) 0 z in
             simp (uncut, back, whole, small)
 
-tested-is-slot : (x : Float) → tested x ≡ slotOfLength x
+tested-is-whole : (last : ℕ) → last < 65535 → (x : Float) → tested last x ≡ wholeUpTo last x
 unfolding toUnsigned
-tested-is-slot nan = rw eq-nan
-tested-is-slot (inf true) = rw (eq-inf (ofInt binary64 (pos 0)) 0 true (whole-value 0 (omega arith)))
-tested-is-slot (inf false) = rw (eq-inf (ofInt binary64 (pos 65535)) 65535 false (whole-value 65535 (omega arith)))
-tested-is-slot (fin true m e) =
+tested-is-whole last h nan = rw eq-nan
+tested-is-whole last h (inf true) = rw (eq-inf (ofInt binary64 (pos 0)) 0 true (whole-value 0 (omega arith)))
+tested-is-whole last h (inf false) = rw (eq-inf (ofInt binary64 (pos 65535)) 65535 false (whole-value 65535 (omega arith)))
+tested-is-whole last h (fin true m e) =
     rw (eq-minus (ofInt binary64 (pos 0)) m e (whole-value 0 (omega arith))) (go (cases-eq m 0))
   where
-    go : (m ≡ 0) ⊎ (m ≡ 0 → ⊥) → cond (eqb m 0 && leb 0 4095) (Some 0) None ≡ slotOfLength (fin true m e)
-    go (inl h) = rw (h, zero-mul (up e), zero-mod (down e), zero-div (down e))
+    go : (m ≡ 0) ⊎ (m ≡ 0 → ⊥) → cond (eqb m 0 && leb 0 last) (Some 0) None ≡ wholeUpTo last (fin true m e)
+    go (inl h) = rw (h, zero-mul (up e), zero-mod (down e), zero-div (down e), le-leb 0 last (omega arith))
     go (inr h) = simp (ne-eqb m 0 h, and-false)
-tested-is-slot (fin false m e) =
+tested-is-whole last h (fin false m e) =
     let n = min (m * up e / down e) 65535 in
-    rw (eq-whole (ofInt binary64 (pos n)) n m e (whole-value n (omega arith))) (size-tests (m * up e) (down e) (down-pos e))
+    rw (eq-whole (ofInt binary64 (pos n)) n m e (whole-value n (omega arith))) (size-tests last (m * up e) (down e) h (down-pos e))
 
 -- by the ways of the code, which has n for the whole part of x, and y for n as a float
-pub slot-yes : (x y : Float) (n : ℕ)
-    → n ≡ toUnsigned 16 x → y ≡ ofInt binary64 (pos n) → eq y x ≡ true → n ≤ 4095 → Some n ≡ slotOfLength x
-slot-yes x y n a b t l =
+pub whole-yes : (x y : Float) (n last : ℕ) → last < 65535
+    → n ≡ toUnsigned 16 x → y ≡ ofInt binary64 (pos n) → eq y x ≡ true → n ≤ last → Some n ≡ wholeUpTo last x
+whole-yes x y n last h a b t l =
     let same : eq (ofInt binary64 (pos (toUnsigned 16 x))) x ≡ true = cc in
-    let small : leb (toUnsigned 16 x) 4095 ≡ true = le-leb (toUnsigned 16 x) 4095 (omega arith) in
-    rw (← tested-is-slot x, a) (simp (same, small))
+    let small : leb (toUnsigned 16 x) last ≡ true = le-leb (toUnsigned 16 x) last (omega arith) in
+    rw (← tested-is-whole last h x, a) (simp (same, small))
 
-pub slot-no : (x y : Float) (n : ℕ) → n ≡ toUnsigned 16 x → y ≡ ofInt binary64 (pos n)
-    → ((eq y x ≡ true) × (4095 < n)) ⊎ (eq y x ≡ false) → None ≡ slotOfLength x
-slot-no x y n a b (inl t) =
-    let large : leb (toUnsigned 16 x) 4095 ≡ false = lt-leb (toUnsigned 16 x) 4095 (omega (arith, t .1)) in
-    rw (← tested-is-slot x) (simp (large, and-false))
-slot-no x y n a b (inr t) =
+pub whole-no : (x y : Float) (n last : ℕ) → last < 65535 → n ≡ toUnsigned 16 x → y ≡ ofInt binary64 (pos n)
+    → ((eq y x ≡ true) × (last < n)) ⊎ (eq y x ≡ false) → None ≡ wholeUpTo last x
+whole-no x y n last h a b (inl t) =
+    let large : leb (toUnsigned 16 x) last ≡ false = lt-leb (toUnsigned 16 x) last (omega (arith, t .1)) in
+    rw (← tested-is-whole last h x) (simp (large, and-false))
+whole-no x y n last h a b (inr t) =
     let apart : eq (ofInt binary64 (pos (toUnsigned 16 x))) x ≡ false = cc in
-    rw (← tested-is-slot x) (simp apart)
+    rw (← tested-is-whole last h x) (simp apart)
 
--- what has the whole value n, up to 4,095, names the slot n
-slot-of-value : (x : Float) (n : ℕ) → n ≤ 4095 → HasValue x false n 1 → slotOfLength x ≡ Some n
-slot-of-value nan n l v = absurd v
-slot-of-value (inf t) n l v = absurd v
-slot-of-value (fin t m e) n l v =
+-- what has the whole value n, up to `last`, is that whole number
+whole-of-value : (x : Float) (n last : ℕ) → n ≤ last → HasValue x false n 1 → wholeUpTo last x ≡ Some n
+whole-of-value nan n last l v = absurd v
+whole-of-value (inf t) n last l v = absurd v
+whole-of-value (fin t m e) n last l v =
     let size : m * up e ≡ n * down e = sym (mul-one (m * up e)) ∙ v .1 in
-    let small : leb n 4095 ≡ true = le-leb n 4095 l in
+    let small : leb n last ≡ true = le-leb n last l in
     rw (size, v .0, mul-mod-left n (down e), mul-div-cancel n (down-pos e)) (simp small)
 
-pub literal-slot : (n : ℕ) → n ≤ 4095 → slotOfLength (ofInt binary64 (pos n)) ≡ Some n
-literal-slot n l = slot-of-value (ofInt binary64 (pos n)) n l (whole-value n (omega arith))
+pub literal-slot : (n : ℕ) → n ≤ 4095 → wholeUpTo 4095 (ofInt binary64 (pos n)) ≡ Some n
+literal-slot n l = whole-of-value (ofInt binary64 (pos n)) n 4095 l (whole-value n (omega arith))
