@@ -1,5 +1,9 @@
 // The counter kind: the signed 32-bit number.
 use crate::NumberKind;
+ghost use mathlib.Core.Path.{_≡_};
+ghost use lib.IntN.{_+ℤ_, _-ℤ_};
+ghost use mir.Syntax.{w32};
+ghost use Rattle.std.specs.shelf.Signed.{wrapped};
 ghost use Rattle.kinds.specs.Counter.{counter};
 
 pub impl NumberKind for i32 as CounterKind {
@@ -10,11 +14,11 @@ pub impl NumberKind for i32 as CounterKind {
     }
 
     fn sum(self, other: i32) -> i32 {
-        self.wrapping_add(other)
+        wrapping_sum(self, other)
     }
 
     fn difference(self, other: i32) -> i32 {
-        self.wrapping_sub(other)
+        wrapping_difference(self, other)
     }
 
     fn greater(self, other: i32) -> bool {
@@ -32,4 +36,17 @@ pub impl NumberKind for i32 as CounterKind {
             None
         }
     }
+}
+
+// The wrapping operations, whose own contracts speak of bits, as whole numbers wrapped round.
+fn wrapping_sum(a: i32, b: i32) -> i32
+    ensures { λ r. ⌜ r ≡ wrapped w32 (a +ℤ b) ⌝ }
+{
+    a.wrapping_add(b)
+}
+
+fn wrapping_difference(a: i32, b: i32) -> i32
+    ensures { λ r. ⌜ r ≡ wrapped w32 (a -ℤ b) ⌝ }
+{
+    a.wrapping_sub(b)
 }

@@ -1,0 +1,2 @@
+pub mod Loans
+pub mod Writes
