@@ -1,7 +1,10 @@
 // Racks: the bays of one aisle, behind one interface.
+pub mod occupancy;
 pub mod rack;
 pub mod table;
 
+pub use occupancy::BitRack;
+pub use occupancy::OccupancyRack;
 pub use rack::BayFault;
 pub use rack::Rack;
 pub use table::BayTable;

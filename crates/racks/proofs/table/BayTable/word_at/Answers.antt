@@ -1,8 +1,6 @@
-use mathlib.Core.Path.{_≡_, ap, _∙_}
-use Prim.Native.Nat.{_<_, _≤_}
-use native.Mathlib.Omega.{arith}
+use mathlib.Core.Path.{ap, _∙_}
 use lib.IntN.{pos}
-use lib.ListN.{length, getD}
+use lib.ListN.{getD}
 use mir.Syntax.{w32}
 use mir.Val.{SFits}
 use borrow.Author.Needs.{needs}
@@ -16,7 +14,5 @@ returns c =
     let words = c .args .self .now .words in
     let slot = c .args .slot in
     let count = c .args .self .now .count in
-    let long : length words ≡ 256 = search needs in
-    let few : count ≤ 256 = c .args .self .now .few in
     let fits : SFits w32 (getD words slot (pos 0)) = search needs in
-    ap Some (toZ-ofZ w32 (getD words slot (pos 0)) fits) ∙ nth-front count words slot (pos 0) (c .pre) (omega (arith, c .pre))
+    ap Some (toZ-ofZ w32 (getD words slot (pos 0)) fits) ∙ nth-front count words slot (pos 0) (c .pre)
