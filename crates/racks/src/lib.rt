@@ -1,4 +1,5 @@
 // Racks: the bays of one aisle, behind one interface.
+pub mod copying;
 pub mod occupancy;
 pub mod rack;
 pub mod rail;
