@@ -4,6 +4,8 @@ pub mod occupancy;
 pub mod rack;
 pub mod rail;
 pub mod table;
+#[cfg(test)]
+mod tests;
 
 pub use occupancy::BitRack;
 pub use occupancy::OccupancyRack;
