@@ -1,0 +1,5 @@
+pub mod Literals
+pub mod RailSums
+pub mod Laws
+pub mod Whole
+pub mod Edges

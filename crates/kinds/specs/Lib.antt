@@ -1,0 +1,5 @@
+pub mod Kinds
+pub mod Counter
+pub mod Rail
+pub mod Laws
+pub mod Edges

@@ -1,0 +1,3 @@
+pub mod Loans
+pub mod Writes
+pub mod Makes
