@@ -31,7 +31,7 @@ partsOf (bayRead a e) = argument e noArgument
 partsOf (bayWrite a e f) = argument e (argument f noArgument)
 
 -- What is wanted after an expression's record: expressions.
-wants-are : (r : Record) (q : NodeKind) → T (suits ExpressionSort (rowFor q .sort)) →
+pub wants-are : (r : Record) (q : NodeKind) → T (suits ExpressionSort (rowFor q .sort)) →
     wants (rowFor q) r ≡ replicate (amount (rowFor q .first .count) r) ExpressionSort
 wants-are r =
     by-expression (λ q. wants (rowFor q) r ≡ replicate (amount (rowFor q .first .count) r) ExpressionSort)
@@ -54,14 +54,14 @@ two-parts (more t (more u none)) w z s = refl
 two-parts (more t (more u (more v vs))) w z s = absurd (s .1 .1)
 
 -- An expression that is made of its parts has those parts.
-parts-are : (p : ℕ) (r : Record) (ts : Forest) (q : NodeKind) → T (suits ExpressionSort (rowFor q .sort)) →
+pub parts-are : (p : ℕ) (r : Record) (ts : Forest) (q : NodeKind) → T (suits ExpressionSort (rowFor q .sort)) →
     Sounds ts (wants (rowFor q) r) → partsOf (makeExpression q p r (argumentsOf ts)) ≡ argumentsOf ts
 parts-are p r ts =
     by-expression (λ q. Sounds ts (wants (rowFor q) r) → partsOf (makeExpression q p r (argumentsOf ts)) ≡ argumentsOf ts)
     (no-parts ts) (no-parts ts) (λ o. two-parts ts ExpressionSort ExpressionSort) (one-part ts ExpressionSort)
     (λ s. refl) (one-part ts ExpressionSort) (two-parts ts ExpressionSort ExpressionSort)
 
-many : (ts : Forest) (n : ℕ) → Sounds ts (replicate n ExpressionSort) → argumentCount (argumentsOf ts) ≡ n
+pub many : (ts : Forest) (n : ℕ) → Sounds ts (replicate n ExpressionSort) → argumentCount (argumentsOf ts) ≡ n
 many none zero s = refl
 many none (suc n) s = absurd s
 many (more t ts) zero s = absurd s

@@ -5,3 +5,5 @@ pub mod Expressions
 pub mod Statements
 pub mod Shapes
 pub mod Declarations
+pub mod Listed
+pub mod Lists

@@ -137,7 +137,7 @@ NoBlock (while a e s) = Unit {0}
 NoBlock (giveBack a e) = Unit {0}
 NoBlock (block a ds ss) = ⊥
 
-wants-are : (r : Record) (q : NodeKind) → T (suits StatementSort (rowFor q .sort)) → (q ≡ is.Block → ⊥) →
+pub wants-are : (r : Record) (q : NodeKind) → T (suits StatementSort (rowFor q .sort)) → (q ≡ is.Block → ⊥) →
     wants (rowFor q) r ≡ ExpressionSort ∷ replicate (amount (rowFor q .second .count) r) StatementSort
 wants-are r =
     by-statement (λ q. (q ≡ is.Block → ⊥) → wants (rowFor q) r ≡ ExpressionSort ∷ replicate (amount (rowFor q .second .count) r) StatementSort)
@@ -160,15 +160,15 @@ two-bodies (more u (more v none)) w z s = refl
 two-bodies (more u (more v (more x xs))) w z s = absurd (s .1 .1)
 
 -- A statement made of a tree t and trees us.
-abbrev made : NodeKind → ℕ → Record → Tree → Forest → Statement
+abbrev pub made : NodeKind → ℕ → Record → Tree → Forest → Statement
 made q p r t us = makeStatement q p r (argumentsOf (more t us)) (variablesIn (more t us)) (statementsOf (more t us))
 
-record Parts (s : Statement) (t : Tree) (us : Forest) : Type 0 where
+pub record Parts (s : Statement) (t : Tree) (us : Forest) : Type 0 where
   pub plain : NoBlock s
   pub test : testOf s ≡ expressionOf t
   pub bodies : bodiesOf s ≡ statementsOf us
 
-parts-are : (p : ℕ) (r : Record) (t : Tree) (us : Forest) (q : NodeKind) → T (suits StatementSort (rowFor q .sort)) → (q ≡ is.Block → ⊥) →
+pub parts-are : (p : ℕ) (r : Record) (t : Tree) (us : Forest) (q : NodeKind) → T (suits StatementSort (rowFor q .sort)) → (q ≡ is.Block → ⊥) →
     Sounds us (replicate (amount (rowFor q .second .count) r) StatementSort) → Parts (made q p r t us) t us
 parts-are p r t us =
     by-statement
