@@ -131,7 +131,8 @@ tested-is-whole last h (fin true m e) =
     go (inr h) = simp (ne-eqb m 0 h, and-false)
 tested-is-whole last h (fin false m e) =
     let n = min (m * up e / down e) 65535 in
-    rw (eq-whole (ofInt binary64 (pos n)) n m e (whole-value n (omega arith))) (size-tests last (m * up e) (down e) h (down-pos e))
+    rw (eq-whole (ofInt binary64 (pos n)) n m e (whole-value n (omega arith)))
+    (size-tests last (m * up e) (down e) h (down-pos e))
 
 -- by the ways of the code, which has n for the whole part of x, and y for n as a float
 pub whole-yes : (x y : Float) (n last : ℕ) → last < 65535

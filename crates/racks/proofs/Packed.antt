@@ -3,7 +3,7 @@ use mathlib.Core.Path.{_≡_, refl, sym, ap, _∙_, subst}
 use mathlib.Core.Logic.{_⊎_, inl, inr, _≢_}
 use mathlib.Core.List.{List, map}
 use Prim.Native.Nat.{ℕ, zero, suc, _+_, _-_, _*_, _/_, _%_, _^_, _≤_, _<_, min, max}
-use native.Mathlib.Nat.{mod-lt, div-self, div-eq-of-lt, mul-div-cancel-left, mul-mod-right, pow-succ', add-mul, zero-div, zero-mod}
+use native.Mathlib.Nat.{div-self, div-eq-of-lt, mul-div-cancel-left, mul-mod-right, pow-succ', add-mul, zero-div}
 use native.Mathlib.Omega.{arith}
 use lib.Bits.{bitAnd, bitOr, and-step, or-step, and-shr, or-shr}
 use lib.Pow.{pow-pos, pow-lt, pow-add}

@@ -1,3 +1,4 @@
 pub mod Loans
 pub mod Writes
+pub mod WriteLaws
 pub mod Makes

@@ -1,5 +1,6 @@
 // Racks: the bays of one aisle, behind one interface.
 pub mod copying;
+pub mod laws;
 pub mod occupancy;
 pub mod rack;
 pub mod rail;

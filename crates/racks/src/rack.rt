@@ -39,7 +39,8 @@ pub trait Rack {
     // Puts a word into a bay, and changes nothing else; a refusal changes nothing at all.
     fn write(&mut self, slot: usize, word: Self::Word) -> Result<(), BayFault>
         ensures answer { λ r. ⌜ r ≡ writeAnswer (holds (now (self .entry))) (bays (now (self .entry))) slot word ⌝ }
-        ensures bays { λ _. ⌜ bays (now (self .exit)) ≡ written (holds (now (self .entry))) (bays (now (self .entry))) slot word ⌝ }
+        ensures bays { λ _. ⌜ bays (now (self .exit))
+            ≡ written (holds (now (self .entry))) (bays (now (self .entry))) slot word ⌝ }
         ensures holds { λ _. ⌜ holds (now (self .exit)) ≡ holds (now (self .entry)) ⌝ }
         ensures loan { λ _. ⌜ loan (now (self .exit)) ≡ loan (now (self .entry)) ⌝ };
 }

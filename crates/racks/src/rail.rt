@@ -4,7 +4,7 @@ use crate::rack::Rack;
 use kinds::RailKind;
 ghost use mathlib.Core.Path.{_≡_};
 ghost use Prim.Native.Nat.{_≤_, _<_};
-ghost use lib.ListN.{length, set, take, drop};
+ghost use lib.ListN.{length, set, take};
 ghost use denote.Ref.{name, now};
 ghost use Rattle.std.specs.shelf.Maps.{nth};
 ghost use Rattle.std.specs.declared.option.Option.the-variants.{Some};

@@ -21,5 +21,6 @@ returns c =
     let few : c .args .slot < 4096 = within-front 4096 floats (c .args .slot) (c .pre) in
     record {
       bays = take-set-lt 4096 floats (c .args .slot) (c .args .word) few;
-      loan = ap (λ rest. record { lender = c .args .self .now .floats .name; rest = rest }) (drop-set-lt 4096 floats (c .args .slot) (c .args .word) few);
+      loan = ap (λ rest. record { lender = c .args .self .now .floats .name; rest = rest })
+          (drop-set-lt 4096 floats (c .args .slot) (c .args .word) few);
     }
