@@ -5,3 +5,4 @@ pub mod Shape
 pub mod EndBay
 pub mod ShapeCases
 pub mod Endings
+pub mod Bays

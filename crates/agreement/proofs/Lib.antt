@@ -1,0 +1,17 @@
+pub mod Scene
+pub mod Live
+pub mod Placed
+pub mod Lists
+pub mod Extent
+pub mod Relation
+pub mod Slots
+pub mod Parts
+pub mod Drops
+pub mod Blocks
+pub mod Calls
+pub mod Simulation
+pub mod Whole
+pub mod Placing
+pub mod Linking
+pub mod Refinement
+pub mod Agreed

@@ -1,0 +1,1 @@
+// The agreement of the machine's run with the tree run.

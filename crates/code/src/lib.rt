@@ -1,0 +1,2 @@
+// Stack code: instructions and the code scheme.
+pub mod instruction;

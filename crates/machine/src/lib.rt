@@ -1,0 +1,2 @@
+// The stack machine.
+pub mod state;

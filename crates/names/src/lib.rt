@@ -1,0 +1,2 @@
+// The rules for names, and the frame need.
+pub mod signature;
