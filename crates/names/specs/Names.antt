@@ -29,7 +29,7 @@ abbrev pub unless : Bool → Refusal → Answer
 unless b e = cond b (Ok tt) (Err e)
 
 abbrev pub signature : Function → Signature
-signature f = record { name = f .name; count = length (f .parameters) }
+signature f = record { name = f .name; count = length (f .parameters); place = f .place }
 
 -- Is there a function of a name.
 abbrev pub isFunction : ℕ → List Signature → Bool

@@ -134,7 +134,7 @@ abbrev recordFor : NodeKind → Record → Record
 recordFor q r = rec (kindNumber q) (cleanName (rowFor q .a) (r .a)) (cleanValue (rowFor q .v) (r .v))
 
 -- A record that fits: its fields are in bounds, and its kind is not the unknown one.
-in-bounds : (w : Sort) (r : Record) (p : ℕ) (q : Row) → fitting w r p ≡ Ok q → fields (rowOf (r .kind)) r ≡ true
+pub in-bounds : (w : Sort) (r : Record) (p : ℕ) (q : Row) → fitting w r p ≡ Ok q → fields (rowOf (r .kind)) r ≡ true
 in-bounds w r p q e = go (suits w (rowOf (r .kind) .sort)) (fields (rowOf (r .kind)) r) e
   where
     go : (a b : Bool) → cond a (cond b (Ok (rowOf (r .kind))) (Err (FieldOutOfBounds p))) (Err (UnexpectedKind p)) ≡ Ok q → b ≡ true
