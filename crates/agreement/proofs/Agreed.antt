@@ -16,11 +16,11 @@ use Rattle.syntax.specs.Syntax.{VariableDeclaration, declare}
 use Rattle.syntax.specs.Syntax.{globalsOf, globalNames}
 use Rattle.treerun.specs.TreeRun.{State, Outcome, value, returned, ended, bindWords}
 use Rattle.treerun.specs.TreeRun.{runProgram, unbound}
-use Rattle.code.specs.Scheme.{programCode, functionEntries}
+use Rattle.code.specs.Scheme.{programCode, functionEntries, numberOf, globalNumbers, globalCount}
 use Rattle.machine.specs.Machine.{Image, MachineState, Progress, over, proceed, run, armed}
 use Rattle.machine.proofs.Runs.{run-add}
-use Rattle.agreement.specs.Agreement.{stateReport, answerAt, treeReport, programImage, globalNumbers, globalCount}
-use Rattle.agreement.specs.Agreement.{numberOf, StillRuns, Ends, Agreement}
+use Rattle.treerun.specs.Report.{reportAt as stateReport, report as treeReport}
+use Rattle.agreement.specs.Agreement.{answerAt, programImage, StillRuns, Ends, Agreement}
 use Rattle.agreement.proofs.Scene.{Scene, imageIn}
 use Rattle.agreement.proofs.Live.{LiveState, LiveProgress, goes, stops, zw, liveRun}
 use Rattle.agreement.proofs.Lists.{length-bindNames, length-bindWords}

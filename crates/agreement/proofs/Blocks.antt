@@ -7,13 +7,13 @@ use lib.ListN.{length, take, drop, length-drop, take-append-drop}
 use lib.IntN.{pos}
 use Rattle.syntax.specs.Syntax.{VariableDeclaration, declare}
 use Rattle.syntax.specs.Syntax.{bindNames, globalNames}
-use Rattle.treerun.specs.TreeRun.{State, Outcome, value, returned, ended, bindWords}
+use Rattle.treerun.specs.TreeRun.{State, Outcome, value, returned, ended, bindWords, bindVariables}
 use Rattle.treerun.specs.TreeRun.{leaveBlock}
 use Rattle.code.specs.declared.instruction.Operation.the-variants.{Lit, Pop}
 use Rattle.agreement.proofs.Scene.{Scene}
 use Rattle.agreement.proofs.Live.{LiveState, goTo, zw}
-use Rattle.agreement.proofs.Placed.{Has, PlacedPushes, PlacedPops}
-use Rattle.agreement.proofs.Lists.{bindNames-append, length-bindWords}
+use Rattle.agreement.proofs.Placed.{Apart, Has, PlacedPushes, PlacedPops}
+use Rattle.agreement.proofs.Lists.{bindNames-append, length-bindNames, bindWords-append, length-bindWords}
 use Rattle.agreement.proofs.Relation.{Working, Surroundings, treeState, machineAt, changed, Fits, Any, Reaches, arrived}
 use Rattle.agreement.proofs.Relation.{reaches-trans, oneStep, at-step, push-fits, Simulates}
 use Rattle.agreement.proofs.Parts.{SimulatesValue}
@@ -69,15 +69,47 @@ module _ {W : Type 0} (S : Scene W) where
         (at-step S (machineAt X [] p (changed (w ∷ l) (c .globals) (c .bays) c)) Pop a h) refl (omega arith))
         (simulatePops a ds (suc p) i l c (omega arith) hs (length ds + j) j (omega arith))
 
-    -- The statements stand from i to j.
-    pub simulateBlock :
+    -- The locals are bound on top in both runs.
+    bound-state :
+        (ds : List VariableDeclaration) (c : Working W)
+        → treeState X (withLocals ds c) ≡ bindVariables (S .kind) ds (treeState X c)
+    bound-state ds c =
+        let names = bindNames-append ds (c .names) (X .callerNames ++ c .globalNames) in
+        let words = bindWords-append (S .kind) ds (c .locals) (X .callerWords ++ c .globals) in
+        λ t. record {
+          names = sym names t;
+          words = sym words t;
+          pastNames = drop (length ds) (c .pastNames);
+          pastWords = drop (length ds) (c .pastWords);
+          bays = c .bays;
+          fuel = c .fuel;
+        }
+
+    pub fits-locals :
+        (own : List ℕ) (ds : List VariableDeclaration) (c : Working W)
+        → Fits S X own c → Apart (S .globals) (bindNames ds own) → Fits S X (bindNames ds own) (withLocals ds c)
+    fits-locals own ds c o apart =
+        record {
+          names = ap (λ (z : List ℕ). bindNames ds z) (o .names);
+          globalNames = o .globalNames;
+          locals = omega (arith, length-bindWords (S .kind) ds (c .locals), length-bindNames ds own, o .locals);
+          globals = o .globals;
+          callers = o .callers;
+          base = o .base;
+          apart = apart;
+          callersApart = o .callersApart;
+          opened = o .opened;
+          room = o .room;
+        }
+
+    -- The statements stand from i to j, and have come to r.
+    leaving :
         (a : ℕ) (own : List ℕ) (ds : List VariableDeclaration) (p i j k q u v : ℕ) (c : Working W) (r : Outcome W W)
         → Fits S X own c → PlacedPushes S a ds p i → PlacedPops S a ds j k → Has S k (Lit (pos 0)) a → q ≡ suc k
         → v + (length ds + length ds + 1) ≤ u → 1 + (length (c .locals) + X .base) ≤ X .limit
-        → length ds + (length (c .locals) + X .base) ≤ X .limit
-        → SimulatesStatements X i j v (withLocals ds c) r
+        → length ds + (length (c .locals) + X .base) ≤ X .limit → SimulatesStatements X i j v (withLocals ds c) r
         → SimulatesValue S X [] [] p q u c (leaveBlock (zw S) (treeState X c) r)
-    simulateBlock a own ds p i j k q u v c (value w σ) o hl hp hz eq hu m₁ m₂ (c₂, e, kp, y, g) =
+    leaving a own ds p i j k q u v c (value w σ) o hl hp hz eq hu m₁ m₂ (c₂, e, kp, y, g) =
         let n : ℕ = length ds in
         let len : length (bindWords (S .kind) ds (c .locals)) ≡ n + length (c .locals) =
         length-bindWords (S .kind) ds (c .locals) in
@@ -123,7 +155,7 @@ module _ {W : Type 0} (S : Scene W) where
             (z y : ℕ) → length ds + y ≤ z
             → Reaches S y (machineAt X [] i (withLocals ds c)) z (machineAt X [] p c)
         before z y l = simulatePushes a ds p i c (o .globals) (o .base) (omega (arith, o .room)) m₂ hl z y l
-    simulateBlock a own ds p i j k q u v c (returned w σ) o hl hp hz eq hu m₁ m₂ (c₂, e, lg, lf, i₁, a₁, h, g) = (
+    leaving a own ds p i j k q u v c (returned w σ) o hl hp hz eq hu m₁ m₂ (c₂, e, lg, lf, i₁, a₁, h, g) = (
       c₂,
       e,
       lg,
@@ -136,7 +168,7 @@ module _ {W : Type 0} (S : Scene W) where
           (simulatePushes a ds p i c (o .globals) (o .base) (omega (arith, o .room)) m₂ hl z (v + y) (omega arith))
           (g (v + y) y (omega arith)),
     )
-    simulateBlock a own ds p i j k q u v c (ended n a₁ σ) o hl hp hz eq hu m₁ m₂ (m, m′, s, sm, g) = (
+    leaving a own ds p i j k q u v c (ended n a₁ σ) o hl hp hz eq hu m₁ m₂ (m, m′, s, sm, g) = (
       m,
       m′,
       s,
@@ -146,3 +178,17 @@ module _ {W : Type 0} (S : Scene W) where
           (simulatePushes a ds p i c (o .globals) (o .base) (omega (arith, o .room)) m₂ hl z v (omega arith))
           (g v (omega arith)),
     )
+
+    pub simulateBlock :
+        (a : ℕ) (own : List ℕ) (ds : List VariableDeclaration) (p i j k q u v : ℕ) (c : Working W)
+        (statements : State W → Outcome W W)
+        → Fits S X own c → PlacedPushes S a ds p i → PlacedPops S a ds j k → Has S k (Lit (pos 0)) a → q ≡ suc k
+        → v + (length ds + length ds + 1) ≤ u → 1 + (length (c .locals) + X .base) ≤ X .limit
+        → length ds + (length (c .locals) + X .base) ≤ X .limit
+        → SimulatesStatements X i j v (withLocals ds c) (statements (treeState X (withLocals ds c)))
+        → SimulatesValue S X [] [] p q u c
+        (leaveBlock (zw S) (treeState X c) (statements (bindVariables (S .kind) ds (treeState X c))))
+    simulateBlock a own ds p i j k q u v c statements o hl hp hz eq hu m₁ m₂ h =
+        subst
+        (λ (σ : State W). SimulatesValue S X [] [] p q u c (leaveBlock (zw S) (treeState X c) (statements σ)))
+        (bound-state ds c) (leaving a own ds p i j k q u v c _ o hl hp hz eq hu m₁ m₂ h)

@@ -9,7 +9,7 @@ use Rattle.agreement.proofs.Lists.{oldest-append}
 use Rattle.agreement.proofs.Relation.{Working, Surroundings, treeState}
 
 module _ {W : Type 0} (X : Surroundings W) where
-  -- What is left of c₂ in the frame of c, whose words are now `locals`; σ is the state in which the bindings are dropped.
+  -- What is left of c₂ in the frame of c, whose words are now `locals`; σ is the state before the bindings are dropped.
   abbrev pub afterDrop : Working W → State W → List W → Working W → Working W
   afterDrop c σ locals c₂ = record {
     names = c .names;

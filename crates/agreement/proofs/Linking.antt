@@ -131,7 +131,8 @@ pub live-agreement :
     (runMain (settingOf kind holds p depth) (p .main)
     (treeStart (sceneOf kind holds p depth capacity) globals bays fuel pastNames pastWords))
 live-agreement {W} kind holds p depth capacity named room globals bays fuel pastNames pastWords counted =
-    whole S (λ f F e. linked-from S (S .functions) (suc (length c)) f F (named .functions-scoped) (omega arith) (h₁ .1) e)
+    whole S
+    (λ f F e. linked-from S (S .functions) (suc (length c)) f F (named .functions-scoped) (omega arith) (h₁ .1) e)
     room (p .main) (length c) (omega arith)
     (place-statement S Halt (p .main) [] 0 (length c) (λ x k e. refl) (named .main-scoped)
     (sym (zero-add (length c))) (lies-left (S .code) 0 c r (lies-all (S .code))))

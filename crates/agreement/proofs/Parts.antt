@@ -3,7 +3,7 @@ use mathlib.Core.Path.{_≡_, refl, sym, ap, _∙_, subst}
 use mathlib.Core.Logic.{inl, inr}
 use mathlib.Core.List.{List, [], _∷_, _++_, append-assoc}
 use mathlib.Core.Bool.{Bool, true, false, cond}
-use Prim.Native.Nat.{ℕ, zero, suc, _+_, _≤_, _<_}
+use Prim.Native.Nat.{ℕ, zero, suc, _+_, _-_, _≤_, _<_}
 use native.Mathlib.Omega.{arith}
 use lib.ListN.{length, set}
 use lib.Dec.{T, ltb}
@@ -17,7 +17,7 @@ use Rattle.script.specs.declared.ending.Ending.{Ending}
 use Rattle.script.specs.declared.ending.Ending.the-variants.{NoFuel, NoSuchBay, CannotHold}
 use Rattle.script.specs.Bays.{BayAnswer, gives, fails, found, readBay, writeBay}
 use Rattle.treerun.specs.TreeRun.{State, Outcome, value, returned, ended, lookUp, store, apply, withWords}
-use Rattle.treerun.specs.TreeRun.{branch, spendFrom, spend, answered}
+use Rattle.treerun.specs.TreeRun.{andThen, branch, spendFrom, spend, answered}
 use Rattle.code.specs.declared.instruction.Operation.the-variants.{Lit, GetL, SetL, GetG, SetG, Jz, Tick}
 use Rattle.code.specs.Scheme.{operatorCode}
 use Rattle.agreement.proofs.Scene.{Scene}
@@ -26,8 +26,9 @@ use Rattle.agreement.proofs.Live.{liveAnswer, zw, liveExecute, liveStep}
 use Rattle.agreement.proofs.Placed.{Has, PlacedVariable}
 use Rattle.agreement.proofs.Lists.{length-setFromBottom, inside-true}
 use Rattle.agreement.proofs.Relation.{Working, Surroundings, treeState, machineAt, withFuelLeft, changed, Keeps, Fits}
-use Rattle.agreement.proofs.Relation.{Unfinished, keeps-refl, keeps-changed, keeps-spent, Any, arrived, reaches-trans}
-use Rattle.agreement.proofs.Relation.{oneStep, oneTick, at-step, push-fits, Simulates, preceded, lastStep}
+use Rattle.agreement.proofs.Relation.{Unfinished, keeps-refl, keeps-changed, keeps-spent, keeps-trans, Any, arrived}
+use Rattle.agreement.proofs.Relation.{reaches-trans, oneStep, oneTick, at-step, push-fits, Simulates, preceded}
+use Rattle.agreement.proofs.Relation.{lastStep, inSequence}
 use Rattle.agreement.proofs.Slots.{local-in, global-in, local-look, global-look, local-put, global-put}
 
 -- What a bay answers gives no ending with an answer.
@@ -238,3 +239,28 @@ module _ {W : Type 0} (S : Scene W) where
         at-bool false e =
             preceded S X (λ (w : W). w ∷ []) Any (g (treeState X c)) [] (w ∷ []) i (suc i) q u v c c (keeps-refl c)
             (λ k j l. oneStep S k (v + j) (jumping false e) refl (omega arith)) (otherwise e)
+
+    -- What runs on the word that a part has pushed onto T.
+    pub afterValue :
+        (U T : List W) (r : Outcome W W) (f : W → State W → Outcome W W) (p i q u v : ℕ) (c : Working W)
+        → (i - p) + v ≤ u → SimulatesValue X T T p i (i - p) c r
+        → ((w : W) (c′ : Working W) → Keeps c c′ → SimulatesValue X U (w ∷ T) i q v c′ (f w (treeState X c′)))
+        → SimulatesValue X U T p q u c (andThen r f)
+    afterValue U T r f p i q u v c hu h next =
+        inSequence S X (λ (w : W). w ∷ U) Any (λ (w : W). w ∷ T) Any r f T p i q u (i - p) v c hu h
+        (λ w c′ kp _. next w c′ kp)
+
+    -- What runs on the words that two parts have pushed onto T.
+    pub afterTwoValues :
+        (T : List W) (r : Outcome W W) (next : State W → Outcome W W) (f : W → W → State W → Outcome W W)
+        (p i j q u : ℕ) (c : Working W)
+        → (i - p) + ((j - i) + 1) ≤ u → SimulatesValue X T T p i (i - p) c r
+        → ((v : W) (c₁ : Working W) → Keeps c c₁
+        → SimulatesValue X (v ∷ T) (v ∷ T) i j (j - i) c₁ (next (treeState X c₁)))
+        → ((v w : W) (c₂ : Working W) → Keeps c c₂
+        → SimulatesValue X T (w ∷ v ∷ T) j q 1 c₂ (f v w (treeState X c₂)))
+        → SimulatesValue X T T p q u c (andThen r (λ v σ. andThen (next σ) (λ w σ. f v w σ)))
+    afterTwoValues T r next f p i j q u c hu first second last =
+        afterValue T T _ _ p i q u ((j - i) + 1) c hu first
+        (λ v c₁ k₁. afterValue T (v ∷ T) _ _ i j q ((j - i) + 1) 1 c₁ (omega arith) (second v c₁ k₁)
+        (λ w c₂ k₂. last v w c₂ (keeps-trans k₁ k₂)))

@@ -9,9 +9,11 @@ use lib.IntN.{pos}
 use Rattle.std.specs.shelf.Maps.{nth}
 use Rattle.std.specs.declared.option.Option.{Option}
 use Rattle.std.specs.declared.option.Option.the-variants.{Some, None}
-use Rattle.syntax.specs.Syntax.{VariableDeclaration, declare, Expression, constant, variable, binary, assign, call, bayRead, bayWrite}
+use Rattle.syntax.specs.Syntax.{VariableDeclaration, declare, Expression, constant, variable, binary, assign, call}
+use Rattle.syntax.specs.Syntax.{bayRead, bayWrite}
 use Rattle.syntax.specs.Syntax.{Arguments, noArgument, argument, Statement, evaluate, ifElse, while, giveBack, block}
-use Rattle.syntax.specs.Syntax.{Statements, noStatement, then, Function, bindNames, argumentCount, locate, functionNamed}
+use Rattle.syntax.specs.Syntax.{Statements, noStatement, then, Function, bindNames, argumentCount, locate}
+use Rattle.syntax.specs.Syntax.{functionNamed}
 use Rattle.code.specs.declared.instruction.Operation.{Operation}
 use Rattle.code.specs.declared.instruction.Operation.the-variants.{Lit, GetL, SetL, GetG, SetG, Pop}
 use Rattle.code.specs.declared.instruction.Operation.the-variants.{Jz, Jmp, Tick, Call, Ret, BayR, BayW, Halt}

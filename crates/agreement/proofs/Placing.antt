@@ -29,7 +29,7 @@ use Rattle.code.specs.Scheme.{argumentsCode, statementCode, blockCode}
 use Rattle.agreement.proofs.Scene.{Scene}
 use Rattle.agreement.proofs.Placed.{Apart, Has, PlacedVariable, PlacedPushes, PlacedPops, PlacedExpression}
 use Rattle.agreement.proofs.Placed.{PlacedArguments, PlacedStatement, PlacedStatements}
-use Rattle.agreement.proofs.Lists.{eqb-true, eqb-equal, eqb-ne, no-some}
+use Rattle.agreement.proofs.Lists.{eqb-true, eqb-equal, no-some}
 
 -- The instructions c stand in the code from p on.
 abbrev pub Lies : List Instruction → ℕ → List Instruction → Type 0
@@ -66,19 +66,15 @@ lies-all code = subst (λ (z : List Instruction). Lies z 0 code) (append-nil cod
 
 member-located : (x : ℕ) (names : List ℕ) → Member x names → (k : ℕ) × (locate x names ≡ Some k)
 member-located x [] m = absurd m
-member-located x (y ∷ ys) m = by (eqb x y) (λ e. eqb-ne x y e) m (λ m. member-located x ys m)
+member-located x (y ∷ ys) (inl e) =
+    (length ys, ap (λ (b : Bool). cond b (Some (length ys)) (locate x ys)) (eqb-true x y e))
+member-located x (y ∷ ys) (inr m) = by (eqb x y) (member-located x ys m)
   where
     by :
-        (b : Bool) → ((x ≡ y → ⊥) → eqb x y ≡ false) → (x ≡ y) ⊎ Member x ys
-        → (Member x ys → (k : ℕ) × (locate x ys ≡ Some k))
-        → (k : ℕ) × (cond (eqb x y) (Some (length ys)) (locate x ys) ≡ Some k)
-    by b ne (inl e) ih =
-        (length ys, ap (λ (b : Bool). cond b (Some (length ys)) (locate x ys)) (eqb-true x y e))
-    by b ne (inr m) ih = here (eqb x y)
-      where
-        here : (b : Bool) → (k : ℕ) × (cond b (Some (length ys)) (locate x ys) ≡ Some k)
-        here true = (length ys, refl)
-        here false = ih m
+        (b : Bool) → (k : ℕ) × (locate x ys ≡ Some k)
+        → (k : ℕ) × (cond b (Some (length ys)) (locate x ys) ≡ Some k)
+    by true ih = (length ys, refl)
+    by false ih = ih
 
 located-member : (x k : ℕ) (names : List ℕ) → locate x names ≡ Some k → Member x names
 located-member x k [] e = absurd (no-some e)
@@ -158,6 +154,41 @@ module _ {W : Type 0} (S : Scene W) where
   place-pops a [] p q e h = omega arith
   place-pops a (d ∷ ds) p q e (h, hs) = (h, place-pops a ds (suc p) q (omega arith) hs)
 
+  abbrev Part : Type 1
+  Part = ℕ → ℕ → Type 0
+
+  -- One part and an operation after it.
+  place-one :
+      (c : List Instruction) (P : Part) (o : Operation) (a p q : ℕ)
+      → ((q : ℕ) → q ≡ p + length c → Lies (S .code) p c → P p q)
+      → q ≡ p + length (c ++ (op a o ∷ [])) → Lies (S .code) p (c ++ (op a o ∷ []))
+      → (i : ℕ) × P p i × Has S i o a × (q ≡ suc i)
+  place-one c P o a p q part eq h = (
+    p + length c,
+    part (p + length c) refl (lies-left (S .code) p c (op a o ∷ []) h),
+    lies-right (S .code) p (p + length c) c (op a o ∷ []) h refl .0,
+    eq ∙ simp length-append (omega arith),
+  )
+
+  -- Two parts and an operation after them.
+  place-two :
+      (c d : List Instruction) (P Q : Part) (o : Operation) (a p q : ℕ)
+      → ((q : ℕ) → q ≡ p + length c → Lies (S .code) p c → P p q)
+      → ((p q : ℕ) → q ≡ p + length d → Lies (S .code) p d → Q p q)
+      → q ≡ p + length (c ++ (d ++ (op a o ∷ []))) → Lies (S .code) p (c ++ (d ++ (op a o ∷ [])))
+      → (i j : ℕ) × P p i × Q i j × Has S j o a × (q ≡ suc j)
+  place-two c d P Q o a p q first second eq h =
+      let z : List Instruction = op a o ∷ [] in
+      let i : ℕ = p + length c in
+      let h₂ : Lies (S .code) i (d ++ z) = lies-right (S .code) p i c (d ++ z) h refl in (
+        i,
+        i + length d,
+        first i refl (lies-left (S .code) p c (d ++ z) h),
+        second i (i + length d) refl (lies-left (S .code) i d z h₂),
+        lies-right (S .code) i (i + length d) d z h₂ refl .0,
+        eq ∙ simp length-append (omega arith),
+      )
+
   mutual
     place-expression :
         (e : Expression) (own : List ℕ) (p q : ℕ)
@@ -168,65 +199,39 @@ module _ {W : Type 0} (S : Scene W) where
     place-expression (variable a x) own p q o eq (h, _) =
         (place-variable GetL GetG a x own p (locate x own) (locate x (S .globals)) refl refl o h, omega arith)
     place-expression (binary a b e f) own p q (o₁, o₂) eq h =
-        let c : List Instruction = expressionCode (S .globals) signatures e own in
-        let d : List Instruction = expressionCode (S .globals) signatures f own in
-        let z : List Instruction = op a (operatorCode b) ∷ [] in
-        let i : ℕ = p + length c in
-        let h₂ : Lies (S .code) i (d ++ z) = lies-right (S .code) p i c (d ++ z) h refl in (
-          i,
-          i + length d,
-          place-expression e own p i o₁ refl (lies-left (S .code) p c (d ++ z) h),
-          place-expression f own i (i + length d) o₂ refl (lies-left (S .code) i d z h₂),
-          lies-right (S .code) i (i + length d) d z h₂ refl .0,
-          eq ∙ simp length-append (omega arith),
-        )
+        place-two (expressionCode (S .globals) signatures e own) (expressionCode (S .globals) signatures f own)
+        (PlacedExpression S e own) (PlacedExpression S f own) (operatorCode b) a p q
+        (λ q eq h. place-expression e own p q o₁ eq h) (λ p q eq h. place-expression f own p q o₂ eq h) eq h
     place-expression (assign a x e) own p q (o₁, o₂) eq h =
-        let c : List Instruction = expressionCode (S .globals) signatures e own in
-        let z : List Instruction = op a (variableCode SetL SetG (locate x own) (locate x (S .globals))) ∷ [] in
-        let i : ℕ = p + length c in (
-          i,
-          place-expression e own p i o₂ refl (lies-left (S .code) p c z h),
-          place-variable SetL SetG a x own i (locate x own) (locate x (S .globals)) refl refl o₁
-              (lies-right (S .code) p i c z h refl .0),
-          eq ∙ simp length-append (omega arith),
+        let o : Operation = variableCode SetL SetG (locate x own) (locate x (S .globals)) in
+        let y = place-one (expressionCode (S .globals) signatures e own) (PlacedExpression S e own) o a p q
+        (λ q eq h. place-expression e own p q o₂ eq h) eq h in (
+          y .0,
+          y .1,
+          place-variable SetL SetG a x own (y .0) (locate x own) (locate x (S .globals)) refl refl o₁ (y .2),
+          y .3,
         )
     place-expression (call a f es) own p q (o₁, o₂) eq h =
-        let c : List Instruction = argumentsCode (S .globals) signatures es own in
-        let z : List Instruction = op a (Call (functionIndex f signatures)) ∷ [] in
-        let i : ℕ = p + length c in
-        let y = function-taken f (argumentCount es) (functionNamed f (S .functions)) refl o₁ in (
-          y .0,
+        let t = function-taken f (argumentCount es) (functionNamed f (S .functions)) refl o₁ in
+        let y = place-one (argumentsCode (S .globals) signatures es own) (PlacedArguments S es own)
+        (Call (functionIndex f signatures)) a p q (λ q eq h. place-arguments es own p q o₂ eq h) eq h in (
+          t .0,
           functionIndex f signatures,
-          i,
+          y .0,
+          t .1,
+          named-index f (t .0) (S .functions) (t .1),
+          t .2,
           y .1,
-          named-index f (y .0) (S .functions) (y .1),
           y .2,
-          place-arguments es own p i o₂ refl (lies-left (S .code) p c z h),
-          lies-right (S .code) p i c z h refl .0,
-          eq ∙ simp length-append (omega arith),
+          y .3,
         )
     place-expression (bayRead a e) own p q o eq h =
-        let c : List Instruction = expressionCode (S .globals) signatures e own in
-        let z : List Instruction = op a BayR ∷ [] in
-        let i : ℕ = p + length c in (
-          i,
-          place-expression e own p i o refl (lies-left (S .code) p c z h),
-          lies-right (S .code) p i c z h refl .0,
-          eq ∙ simp length-append (omega arith),
-        )
+        place-one (expressionCode (S .globals) signatures e own) (PlacedExpression S e own) BayR a p q
+        (λ q eq h. place-expression e own p q o eq h) eq h
     place-expression (bayWrite a e f) own p q (o₁, o₂) eq h =
-        let c : List Instruction = expressionCode (S .globals) signatures e own in
-        let d : List Instruction = expressionCode (S .globals) signatures f own in
-        let z : List Instruction = op a BayW ∷ [] in
-        let i : ℕ = p + length c in
-        let h₂ : Lies (S .code) i (d ++ z) = lies-right (S .code) p i c (d ++ z) h refl in (
-          i,
-          i + length d,
-          place-expression e own p i o₁ refl (lies-left (S .code) p c (d ++ z) h),
-          place-expression f own i (i + length d) o₂ refl (lies-left (S .code) i d z h₂),
-          lies-right (S .code) i (i + length d) d z h₂ refl .0,
-          eq ∙ simp length-append (omega arith),
-        )
+        place-two (expressionCode (S .globals) signatures e own) (expressionCode (S .globals) signatures f own)
+        (PlacedExpression S e own) (PlacedExpression S f own) BayW a p q
+        (λ q eq h. place-expression e own p q o₁ eq h) (λ p q eq h. place-expression f own p q o₂ eq h) eq h
 
     place-arguments :
         (es : Arguments) (own : List ℕ) (p q : ℕ)
@@ -293,14 +298,8 @@ module _ {W : Type 0} (S : Scene W) where
             eq ∙ simp length-append (omega arith),
           )
       place-statement (giveBack a e) own p q apart o eq h =
-          let c : List Instruction = expressionCode (S .globals) signatures e own in
-          let z : List Instruction = op a leave ∷ [] in
-          let i : ℕ = p + length c in (
-            i,
-            place-expression e own p i o refl (lies-left (S .code) p c z h),
-            lies-right (S .code) p i c z h refl .0,
-            eq ∙ simp length-append (omega arith),
-          )
+          place-one (expressionCode (S .globals) signatures e own) (PlacedExpression S e own) leave a p q
+          (λ q eq h. place-expression e own p q o eq h) eq h
       place-statement (block a ds ss) own p q apart (o₁, o₂) eq h =
           let b : List Instruction = pushLocals a ds in
           let i : ℕ = p + length ds in

@@ -73,7 +73,9 @@ module _ {W : Type 0} where
           (ap (λ (k : ℕ). getD (reverseAux s (w ∷ t)) k d) e ∙ top-word s t w d)
       by (no n) ih = rw (eqb-ne i (length s) n) (ih (omega arith))
 
-  live-set : (v : W) (s t : List W) (i : ℕ) → i < length s → set (reverseAux s t) i v ≡ reverseAux (setFromBottom s i v) t
+  live-set :
+      (v : W) (s t : List W) (i : ℕ) → i < length s
+      → set (reverseAux s t) i v ≡ reverseAux (setFromBottom s i v) t
   live-set v [] t i h = absurd (not-suc-le-zero h)
   live-set v (w ∷ s) t i h = by (ℕ-discrete i (length s)) (λ l. live-set v s (w ∷ t) i l)
     where
@@ -113,14 +115,16 @@ module _ {W : Type 0} where
             ap (λ (k : ℕ). length (drop k (w ∷ s))) z ∙ sym e,
             omega arith,
           )
-      by (no ne) ih =
-          let z : suc (length s) - n ≡ suc (length s - n) = omega arith in
-          let i = ih (omega arith) in (
-            i .0,
-            i .1 ∙ ap (λ (k : ℕ). reverseAux (drop k (w ∷ s)) (i .0)) (sym z),
-            ap (λ (k : ℕ). length (drop k (w ∷ s))) z ∙ i .2,
-            omega (arith, i .3),
-          )
+      by (no ne) ih = further (ih (omega arith))
+        where
+          further : Cut n s (w ∷ t) → Cut n (w ∷ s) t
+          further (r, e, l, k) =
+              let z : suc (length s) - n ≡ suc (length s - n) = omega arith in (
+                r,
+                e ∙ ap (λ (k : ℕ). reverseAux (drop k (w ∷ s)) r) (sym z),
+                ap (λ (k : ℕ). length (drop k (w ∷ s))) z ∙ l,
+                omega arith,
+              )
 
   -- A result w is put above the oldest n words.
   put-above :

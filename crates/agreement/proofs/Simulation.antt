@@ -1,38 +1,35 @@
 -- The simulation: by recursion over a node, each case from those of its parts, and then over the clock.
-use mathlib.Core.Path.{_≡_, refl, sym, ap, _∙_, subst}
+use mathlib.Core.Path.{_≡_, refl, sym, _∙_, subst}
 use mathlib.Core.List.{List, [], _∷_, _++_, reverse}
 use Prim.Native.Nat.{ℕ, zero, suc, _+_, _-_, _≤_, _<_}
 use native.Mathlib.Nat.{zero-add, not-suc-le-zero}
 use native.Mathlib.Omega.{arith}
-use lib.ListN.{length, drop, length-append}
+use lib.ListN.{length, length-append}
 use lib.Dec.{T}
-use lib.IntN.{pos}
 use Rattle.std.specs.shelf.Maps.{nth}
 use Rattle.std.specs.declared.option.Option.the-variants.{Some}
 use Rattle.script.specs.Bays.{readBay, writeBay}
 use Rattle.syntax.specs.Syntax.{Expression, constant, variable, binary, assign, call, bayRead, bayWrite}
 use Rattle.syntax.specs.Syntax.{Arguments, noArgument, argument, Statement, evaluate, ifElse, while, giveBack, block}
 use Rattle.syntax.specs.Syntax.{Statements, noStatement, then, Function, bindNames, argumentCount, functionNamed}
-use Rattle.syntax.specs.Syntax.{globalNames}
 use Rattle.names.specs.Need.{needExpression, needArguments, needStatement, needStatements}
-use Rattle.treerun.specs.TreeRun.{State, Outcome, value, apply, bindWords}
-use Rattle.treerun.specs.TreeRun.{andThen, leaveBlock, runExpression, runArguments, runStatement, runStatements}
-use Rattle.treerun.specs.TreeRun.{clocked}
-use Rattle.code.specs.declared.instruction.Operation.the-variants.{Pop, Jmp, Ret, BayR, BayW}
+use Rattle.treerun.specs.TreeRun.{State, Outcome, value, apply}
+use Rattle.treerun.specs.TreeRun.{answered, runExpression, runArguments, runStatement, runStatements, clocked}
+use Rattle.code.specs.declared.instruction.Operation.the-variants.{Pop, Ret, BayR, BayW}
 use Rattle.code.specs.Scheme.{operatorCode}
 use Rattle.agreement.proofs.Scene.{Scene, settingIn}
 use Rattle.agreement.proofs.Live.{zw}
 use Rattle.agreement.proofs.Placed.{PlacedExpression, PlacedArguments, PlacedStatement, PlacedStatements}
-use Rattle.agreement.proofs.Lists.{nth-lt, bindNames-append, length-bindNames, bindWords-append, length-bindWords}
+use Rattle.agreement.proofs.Lists.{length-bindWords}
 use Rattle.agreement.proofs.Extent.{extentPushes, extentPops, extentExpression, extentArguments, extentStatement}
 use Rattle.agreement.proofs.Extent.{extentStatements, needsOne}
-use Rattle.agreement.proofs.Relation.{Working, Surroundings, treeState, machineAt, withFuelLeft, Keeps, Fits}
-use Rattle.agreement.proofs.Relation.{keeps-refl, keeps-spent, keeps-trans, fits-kept, Any, arrived, reaches-trans}
-use Rattle.agreement.proofs.Relation.{oneStep, at-step, Simulates, preceded, inSequence}
+use Rattle.agreement.proofs.Relation.{Working, Surroundings, treeState, machineAt, Fits, keeps-refl, fits-kept, Any}
+use Rattle.agreement.proofs.Relation.{arrived, oneStep, at-step, Simulates, preceded, inSequence}
 use Rattle.agreement.proofs.Parts.{SimulatesValue, valueStep, simulateVariable, simulateAssignment, simulateBay}
-use Rattle.agreement.proofs.Parts.{thenJump, simulateTick, simulateBranch, simulateLiteral, execute-operator}
-use Rattle.agreement.proofs.Parts.{read-unfinished, write-unfinished}
-use Rattle.agreement.proofs.Blocks.{SimulatesStatements, withLocals, simulateBlock}
+use Rattle.agreement.proofs.Parts.{afterValue, afterTwoValues, simulateLiteral, execute-operator, read-unfinished}
+use Rattle.agreement.proofs.Parts.{write-unfinished}
+use Rattle.agreement.proofs.Blocks.{SimulatesStatements, withLocals, fits-locals, simulateBlock}
+use Rattle.agreement.proofs.Branches.{simulateIf, simulateWhile}
 use Rattle.agreement.proofs.Calls.{Linked, simulateCall}
 
 module _ {W : Type 0} (S : Scene W) where
@@ -43,17 +40,6 @@ module _ {W : Type 0} (S : Scene W) where
       → Fits S X own c → PlacedStatement S (X .leave) s own p q → q ≤ u + p → c .fuel < n
       → length (c .locals) + X .base + needStatement s ≤ X .limit
       → SimulatesValue S X [] [] p q u c (deep (length (X .frames)) s (treeState X c))
-
-  -- What runs on the word that a part has pushed onto T.
-  afterValue :
-      (X : Surroundings W) (U T : List W) (r : Outcome W W) (f : W → State W → Outcome W W) (p i q u v : ℕ)
-      (c : Working W)
-      → (i - p) + v ≤ u → SimulatesValue S X T T p i (i - p) c r
-      → ((w : W) (c′ : Working W) → Keeps c c′ → SimulatesValue S X U (w ∷ T) i q v c′ (f w (treeState X c′)))
-      → SimulatesValue S X U T p q u c (andThen r f)
-  afterValue X U T r f p i q u v c hu h next =
-      inSequence S X (λ (w : W). w ∷ U) Any (λ (w : W). w ∷ T) Any r f T p i q u (i - p) v c hu h
-      (λ w c′ kp _. next w c′ kp)
 
   module _ (links : (f : ℕ) (F : Function) → nth (S .functions) f ≡ Some F → Linked S (S .entries) f F) where
     module _ (deep : ℕ → Statement → State W → Outcome W W) (n : ℕ) (faithful : Faithful deep n) where
@@ -80,19 +66,20 @@ module _ {W : Type 0} (S : Scene W) where
         simulateExpression (binary a b e f) X own p q u c T o (i, j, x, y, z, eq) hu hn hm =
             let l₁ : p < i = extentExpression S e own p i x in
             let l₂ : i < j = extentExpression S f own i j y in
-            afterValue X T T _ _ p i q u (u - (i - p)) c (omega arith)
+            afterTwoValues S X T _ (λ σ. runExpression (settingIn S) deep f (length (X .frames)) σ)
+            (λ v w σ. value (apply (S .kind) b v w) σ) p i j q u c (omega arith)
             (simulateExpression e X own p i (i - p) c T o x (omega arith) hn (omega arith))
-            (λ v c₁ k₁. afterValue X T (v ∷ T) _ _ i j q (u - (i - p)) 1 c₁ (omega arith)
-            (simulateExpression f X own i j (j - i) c₁ (v ∷ T) (fits-kept o k₁) y (omega arith) (omega arith)
+            (λ v c₁ k₁.
+            simulateExpression f X own i j (j - i) c₁ (v ∷ T) (fits-kept o k₁) y (omega arith) (omega arith)
             (omega (arith, k₁ .locals)))
-            (λ w c₂ k₂.
+            (λ v w c₂ k₂.
             valueStep S X (apply (S .kind) b v w) (treeState X c₂) T (w ∷ v ∷ T) j q 1 c₂ c₂ eq refl
             (keeps-refl c₂) (omega arith) refl
             (at-step S (machineAt X (w ∷ v ∷ T) j c₂) (operatorCode b) a z
-            ∙ execute-operator S b a v w (machineAt X T j c₂ .live) (machineAt X (w ∷ v ∷ T) j c₂) refl)))
+            ∙ execute-operator S b a v w (machineAt X T j c₂ .live) (machineAt X (w ∷ v ∷ T) j c₂) refl))
         simulateExpression (assign a x e) X own p q u c T o (i, y, z, eq) hu hn hm =
             let l₁ : p < i = extentExpression S e own p i y in
-            afterValue X T T _ _ p i q u 1 c (omega arith)
+            afterValue S X T T _ _ p i q u 1 c (omega arith)
             (simulateExpression e X own p i (i - p) c T o y (omega arith) hn (omega arith))
             (λ w c₁ k₁. simulateAssignment S X a x own i q 1 c₁ T w (fits-kept o k₁) z eq (omega arith))
         simulateExpression (call a f es) X own p q u c T o (F, kf, i, hn₁, hf, ha, hes, h, eq) hu hn hm =
@@ -122,7 +109,7 @@ module _ {W : Type 0} (S : Scene W) where
             (L .body) (omega arith) (omega arith) (omega (arith, L .need)))))
         simulateExpression (bayRead a e) X own p q u c T o (i, x, z, eq) hu hn hm =
             let l₁ : p < i = extentExpression S e own p i x in
-            afterValue X T T _ _ p i q u 1 c (omega arith)
+            afterValue S X T T _ _ p i q u 1 c (omega arith)
             (simulateExpression e X own p i (i - p) c T o x (omega arith) hn (omega arith))
             (λ w c₁ k₁.
             simulateBay S X a own (w ∷ T) T i q 1 c₁ (readBay (c₁ .bays) (S .kind .slot w))
@@ -131,16 +118,16 @@ module _ {W : Type 0} (S : Scene W) where
         simulateExpression (bayWrite a e f) X own p q u c T o (i, j, x, y, z, eq) hu hn hm =
             let l₁ : p < i = extentExpression S e own p i x in
             let l₂ : i < j = extentExpression S f own i j y in
-            afterValue X T T _ _ p i q u (u - (i - p)) c (omega arith)
+            afterTwoValues S X T _ (λ σ. runExpression (settingIn S) deep f (length (X .frames)) σ)
+            (λ v w σ. answered a (writeBay (S .holds) (σ .bays) (S .kind .slot v) w) σ) p i j q u c (omega arith)
             (simulateExpression e X own p i (i - p) c T o x (omega arith) hn (omega arith))
-            (λ v c₁ k₁. afterValue X T (v ∷ T) _ _ i j q (u - (i - p)) 1 c₁ (omega arith)
-            (simulateExpression f X own i j (j - i) c₁ (v ∷ T) (fits-kept o k₁) y (omega arith) (omega arith)
+            (λ v c₁ k₁.
+            simulateExpression f X own i j (j - i) c₁ (v ∷ T) (fits-kept o k₁) y (omega arith) (omega arith)
             (omega (arith, k₁ .locals)))
-            (λ w c₂ k₂.
-            simulateBay S X a own (w ∷ v ∷ T) T j q 1 c₂
-            (writeBay (S .holds) (c₂ .bays) (S .kind .slot v) w)
-            (write-unfinished S (c₂ .bays) (S .kind .slot v) w) (fits-kept o (keeps-trans k₁ k₂)) eq
-            (omega arith) (at-step S (machineAt X (w ∷ v ∷ T) j c₂) BayW a z)))
+            (λ v w c₂ k₂.
+            simulateBay S X a own (w ∷ v ∷ T) T j q 1 c₂ (writeBay (S .holds) (c₂ .bays) (S .kind .slot v) w)
+            (write-unfinished S (c₂ .bays) (S .kind .slot v) w) (fits-kept o k₂) eq (omega arith)
+            (at-step S (machineAt X (w ∷ v ∷ T) j c₂) BayW a z))
 
         pub simulateArguments :
             (es : Arguments) (ran : List W) (X : Surroundings W) (own : List ℕ) (p q u : ℕ) (c : Working W)
@@ -188,55 +175,34 @@ module _ {W : Type 0} (S : Scene W) where
             let l₁ : p < i = extentExpression S e own p i x in
             let l₂ : suc i < j = extentStatement S (X .leave) s own (suc i) j y in
             let l₃ : suc j < q = extentStatement S (X .leave) t own (suc j) q z in
-            let rest : ℕ = u - (i - p) in
-            afterValue X [] [] _ _ p i q u rest c (omega arith)
+            simulateIf S X a p i j q u c
+            (λ σ. runExpression (settingIn S) deep e (length (X .frames)) σ)
+            (λ σ. runStatement (settingIn S) deep s (length (X .frames)) σ)
+            (λ σ. runStatement (settingIn S) deep t (length (X .frames)) σ)
+            hz hj (omega arith) (omega arith)
             (simulateExpression e X own p i (i - p) c [] o x (omega arith) hn (omega arith))
-            (λ w c₁ k₁.
-            simulateBranch S X a i (suc j) q rest (rest - 1) w c₁ _ _ hz (omega arith)
-            (λ _.
-            simulateStatement t X own (suc j) q (rest - 1) c₁ (fits-kept o k₁) z (omega arith) (omega arith)
-            (omega (arith, k₁ .locals)))
-            (λ _.
-            thenJump S X [] [] (suc i) j q (rest - 1) (j - suc i) c₁ _ (omega arith)
-            (λ w c₂. at-step S (machineAt X (w ∷ []) j c₂) (Jmp q) a hj)
-            (simulateStatement s X own (suc i) j (j - suc i) c₁ (fits-kept o k₁) y (omega arith)
-            (omega arith) (omega (arith, k₁ .locals)))))
+            (λ c₁ k₁. simulateStatement s X own (suc i) j (j - suc i) c₁ (fits-kept o k₁) y (omega arith)
+            (omega (arith, k₁ .fuel)) (omega (arith, k₁ .locals)))
+            (λ c₁ k₁. simulateStatement t X own (suc j) q (q - suc j) c₁ (fits-kept o k₁) z (omega arith)
+            (omega (arith, k₁ .fuel)) (omega (arith, k₁ .locals)))
         simulateStatement (while a e s) X own p q u c o (i, j, h₁, x, hz, y, h₂, h₃, h₄, eq) hu hn hm =
             let l₁ : suc p < i = extentExpression S e own (suc p) i x in
             let l₂ : suc i < j = extentStatement S (X .leave) s own (suc i) j y in
-            let l₃ : suc (suc j) < length (S .code) = nth-lt (S .code) (suc (suc j)) _ h₄ in
-            let over-again : ℕ = 2 + (q - p) in
-            let body : ℕ = (j - suc i) + over-again in
-            simulateTick S X a own p q u ((i - suc p) + (1 + body)) c _ o h₁ (omega arith) (omega arith)
-            (λ n₁ e₁.
-            let k₀ : Keeps c (withFuelLeft n₁ c) = keeps-spent n₁ c e₁ in
-            afterValue X [] [] _ _ (suc p) i q _ (1 + body) (withFuelLeft n₁ c) (omega arith)
-            (simulateExpression e X own (suc p) i (i - suc p) (withFuelLeft n₁ c) [] (fits-kept o k₀) x
-            (omega arith) (omega arith) (omega arith))
-            (λ w c₁ k₁.
-            simulateBranch S X a i (suc (suc j)) q (1 + body) body w c₁ _ _ hz (omega arith)
-            (λ _.
-            simulateLiteral S X a (pos 0) own (suc (suc j)) q _ c₁ [] (fits-kept o (keeps-trans k₀ k₁)) h₄
-            eq (omega arith) (omega (arith, k₁ .locals, needsOne e)))
-            (λ _. inSequence S X (λ (w : W). w ∷ []) Any (λ (w : W). w ∷ []) Any _ _ [] (suc i) j q _
-            (j - suc i) over-again c₁ (omega arith)
-            (simulateStatement s X own (suc i) j (j - suc i) c₁ (fits-kept o (keeps-trans k₀ k₁)) y
-            (omega arith) (omega (arith, k₁ .fuel)) (omega (arith, k₁ .locals)))
-            (λ v c₂ k₂ _.
-            preceded S X (λ (w : W). w ∷ []) Any _ [] (v ∷ []) j p q over-again (q - p) c₂ c₂
-            (keeps-refl c₂)
-            (λ k l h. reaches-trans S
-            (oneStep S k (suc ((q - p) + l)) (at-step S (machineAt X (v ∷ []) j c₂) Pop a h₂) refl
-            (omega arith))
-            (oneStep S (suc ((q - p) + l)) ((q - p) + l)
-            (at-step S (machineAt X [] (suc j) c₂) (Jmp p) a h₃) refl (omega arith)))
-            (faithful X (while a e s) own p q (q - p) c₂
-            (fits-kept o (keeps-trans k₀ (keeps-trans k₁ k₂)))
-            (i, j, h₁, x, hz, y, h₂, h₃, h₄, eq) (omega arith)
-            (omega (arith, k₁ .fuel, k₂ .fuel)) (omega (arith, k₁ .locals, k₂ .locals)))))))
+            simulateWhile S X a own p i j q u c
+            (λ σ. runExpression (settingIn S) deep e (length (X .frames)) σ)
+            (λ σ. runStatement (settingIn S) deep s (length (X .frames)) σ)
+            (λ σ. deep (length (X .frames)) (while a e s) σ)
+            o (record { tick = h₁; test = hz; pop = h₂; jump = h₃; zero = h₄; end = eq })
+            (record { test = l₁; body = l₂; room = omega (arith, needsOne e); credits = omega arith })
+            (λ c₁ k₁ f₁. simulateExpression e X own (suc p) i (i - suc p) c₁ [] (fits-kept o k₁) x (omega arith)
+            (omega (arith, f₁)) (omega (arith, k₁ .locals)))
+            (λ c₁ k₁ f₁. simulateStatement s X own (suc i) j (j - suc i) c₁ (fits-kept o k₁) y (omega arith)
+            (omega (arith, f₁)) (omega (arith, k₁ .locals)))
+            (λ c₁ k₁ f₁. faithful X (while a e s) own p q (q - p) c₁ (fits-kept o k₁)
+            (i, j, h₁, x, hz, y, h₂, h₃, h₄, eq) (omega arith) (omega (arith, f₁)) (omega (arith, k₁ .locals)))
         simulateStatement (giveBack a e) X own p q u c o (i, x, h, eq) hu hn hm =
             let l₁ : p < i = extentExpression S e own p i x in
-            afterValue X [] [] _ _ p i q u 1 c (omega arith)
+            afterValue S X [] [] _ _ p i q u 1 c (omega arith)
             (simulateExpression e X own p i (i - p) c [] o x (omega arith) hn (omega arith))
             (λ w c₁ k₁. (c₁, refl, (refl, refl), omega arith, i, a, h, λ k j l. arrived refl (omega arith)))
         simulateStatement (block a ds ss) X own p q u c o (i, j, k, apart, hl, y, hp, hz, eq) hu hn hm =
@@ -244,43 +210,12 @@ module _ {W : Type 0} (S : Scene W) where
             let l₂ = extentStatements S (X .leave) ss (bindNames ds own) a i j y in
             let l₃ = extentPops S a ds j k hp in
             let len = length-bindWords (S .kind) ds (c .locals) in
-            let inner : Fits S X (bindNames ds own) (withLocals S ds c) =
-            record {
-              names = ap (λ (z : List ℕ). bindNames ds z) (o .names);
-              globalNames = o .globalNames;
-              locals = omega (arith, len, length-bindNames ds own, o .locals);
-              globals = o .globals;
-              callers = o .callers;
-              base = o .base;
-              apart = apart;
-              callersApart = o .callersApart;
-              opened = o .opened;
-              room = o .room;
-            } in
-            let left : List ℕ → List W → Outcome W W =
-            λ names words. leaveBlock (zw S) (treeState X c)
-            (runStatements (settingIn S) deep ss (length (X .frames))
-            (record {
-              names = names;
-              words = words;
-              pastNames = drop (length ds) (c .pastNames);
-              pastWords = drop (length ds) (c .pastWords);
-              bays = c .bays;
-              fuel = c .fuel;
-            })) in
-            subst
-            (λ (z : List ℕ).
-            SimulatesValue S X [] [] p q u c (left z (bindWords (S .kind) ds (treeState X c .words))))
-            (sym (bindNames-append ds (c .names) (X .callerNames ++ c .globalNames)))
-            (subst
-            (λ (z : List W).
-            SimulatesValue S X [] [] p q u c
-            (left (bindNames ds (c .names) ++ (X .callerNames ++ c .globalNames)) z))
-            (sym (bindWords-append (S .kind) ds (c .locals) (X .callerWords ++ c .globals)))
-            (simulateBlock S X a own ds p i j k q u (j - i) c _ o hl hp hz eq (omega arith) (omega arith)
-            (omega arith)
+            simulateBlock S X a own ds p i j k q u (j - i) c
+            (λ σ. runStatements (settingIn S) deep ss (length (X .frames)) σ)
+            o hl hp hz eq (omega arith) (omega arith) (omega arith)
             (simulateStatements ss X (bindNames ds own) a (length (c .locals) + X .base) (length ds) i j (j - i)
-            (withLocals S ds c) inner y (omega arith) hn (omega (arith, len)) (omega arith))))
+            (withLocals S ds c) (fits-locals S X own ds c o apart) y (omega arith) hn (omega (arith, len))
+            (omega arith))
 
         -- The frame's bindings end at z + locals, of which `locals` are the block's own.
         pub simulateStatements :

@@ -1,49 +1,21 @@
 -- What it means that the machine's run of a program's code agrees with the tree run of the program.
 use mathlib.Core.Path.{_≡_}
 use mathlib.Core.Bool.{Bool}
-use mathlib.Core.List.{List, map, reverse}
+use mathlib.Core.List.{List}
 use Prim.Native.Nat.{ℕ, suc, _+_, _-_, _*_, _≤_, _<_}
 use lib.ListN.{length, take}
-use lib.IntN.{ℤ}
 use Rattle.std.specs.declared.option.Option.{Option}
 use Rattle.std.specs.declared.option.Option.the-variants.{Some, None}
 use Rattle.kinds.specs.Kinds.{Kind}
 use Rattle.script.specs.declared.ending.Ending.{Ending}
 use Rattle.script.specs.declared.ending.Ending.the-variants.{Done, NoFuel, TooDeep, NoSuchBay, CannotHold}
-use Rattle.syntax.specs.Syntax.{VariableDeclaration, declare, Program, globalsOf}
+use Rattle.syntax.specs.Syntax.{Program}
 use Rattle.names.specs.Need.{largestNeed}
 use Rattle.names.specs.Scoped.{WellNamed}
-use Rattle.treerun.specs.TreeRun.{State, Outcome, value, returned, ended, runProgram, unbound}
-use Rattle.code.specs.Scheme.{programCode, functionEntries}
+use Rattle.treerun.specs.TreeRun.{runProgram, unbound}
+use Rattle.treerun.specs.Report.{Report, report as treeReport}
+use Rattle.code.specs.Scheme.{programCode, functionEntries, globalNumbers, globalCount}
 use Rattle.machine.specs.Machine.{Image, MachineState, running, over, wordAt, run, armed}
-
--- What can be told of a run that has ended: its ending and the place of it, the answer if there is one, the words of
--- the globals, oldest first, the bays, and the ticks, the fuel spent.
-pub record Report (W : Type 0) : Type 0 where
-  pub ending : Ending
-  pub place : ℕ
-  pub answer : Option W
-  pub globals : List W
-  pub bays : List W
-  pub ticks : ℕ
-
--- ---- the tree run
-
-abbrev pub stateReport : {W : Type 0} → ℕ → ℕ → Ending → ℕ → Option W → State W → Report W
-stateReport g fuel ending place answer σ = record {
-  ending = ending;
-  place = place;
-  answer = answer;
-  globals = take g (reverse (σ .words));
-  bays = σ .bays;
-  ticks = fuel - σ .fuel;
-}
-
--- Of a program with g globals that began with some fuel. Its value, or the word that it returns, is its answer.
-abbrev pub treeReport : {W : Type 0} → ℕ → ℕ → Outcome W W → Report W
-treeReport g fuel (value w σ) = stateReport g fuel Done 0 (Some w) σ
-treeReport g fuel (returned w σ) = stateReport g fuel Done 0 (Some w) σ
-treeReport g fuel (ended e place σ) = stateReport g fuel e place None σ
 
 -- ---- the machine's run
 
@@ -85,16 +57,6 @@ pub record Ends {W : Type 0} (I : Image W) (m : MachineState W) (r : Report W) :
   pub bounded : suc steps ≤ (r .ticks + 1) * length (I .code)
 
 -- ---- the agreement
-
-abbrev pub numberOf : VariableDeclaration → ℤ
-numberOf (declare a x v) = v
-
--- The first numbers of a program's globals, in order, and how many globals there are.
-abbrev pub globalNumbers : Program → List ℤ
-globalNumbers p = map numberOf (globalsOf p)
-
-abbrev pub globalCount : Program → ℕ
-globalCount p = length (globalsOf p)
 
 -- What the machine runs a program on.
 abbrev pub programImage : {W : Type 0} → Kind W → (W → Bool) → Program → ℕ → Image W

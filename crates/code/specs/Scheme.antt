@@ -1,17 +1,20 @@
--- The code scheme: the code of each node, made of its parts' code. Every instruction of a node's own has the node's place.
+-- The code scheme: the code of each node, made of its parts' code. Every instruction of a node's own has the place of
+-- the node. Then what else is kept of a program beside its code.
 use mathlib.Core.List.{List, [], _∷_, _++_, map, reverse}
 use mathlib.Core.Bool.{cond}
 use Prim.Native.Nat.{ℕ, suc, _+_}
 use lib.ListN.{length}
 use lib.Dec.{eqb}
-use lib.IntN.{pos}
+use lib.IntN.{ℤ, pos}
 use Rattle.std.specs.declared.option.Option.{Option}
 use Rattle.std.specs.declared.option.Option.the-variants.{Some, None}
 use Rattle.script.specs.declared.rows.Operator.{Operator}
 use Rattle.script.specs.declared.rows.Operator.the-variants.{Sum, Difference, Greater}
-use Rattle.syntax.specs.Syntax.{VariableDeclaration, declare, Expression, constant, variable, binary, assign, call, bayRead, bayWrite}
+use Rattle.syntax.specs.Syntax.{VariableDeclaration, declare, Expression, constant, variable, binary, assign, call}
+use Rattle.syntax.specs.Syntax.{bayRead, bayWrite}
 use Rattle.syntax.specs.Syntax.{Arguments, noArgument, argument, Statement, evaluate, ifElse, while, giveBack, block}
-use Rattle.syntax.specs.Syntax.{Statements, noStatement, then, Function, Program, bindNames, functionsOf, globalNames, locate}
+use Rattle.syntax.specs.Syntax.{Statements, noStatement, then, Function, Program, bindNames, functionsOf}
+use Rattle.syntax.specs.Syntax.{globalsOf, globalNames, locate}
 use Rattle.names.specs.declared.signature.Signature.{Signature}
 use Rattle.names.specs.Names.{signature}
 use Rattle.code.specs.declared.instruction.Operation.{Operation}
@@ -135,3 +138,13 @@ programCode p =
 abbrev pub functionEntries : Program → List FunctionEntry
 functionEntries p =
     entriesFrom (globalNames p) (signaturesOf p) (functionsOf (p .declarations)) (suc (length (mainCode p)))
+
+-- The first numbers of a program's globals, in order, and how many globals there are.
+abbrev pub numberOf : VariableDeclaration → ℤ
+numberOf (declare a x v) = v
+
+abbrev pub globalNumbers : Program → List ℤ
+globalNumbers p = map numberOf (globalsOf p)
+
+abbrev pub globalCount : Program → ℕ
+globalCount p = length (globalsOf p)

@@ -1,4 +1,5 @@
-// What the machine keeps besides the word store and the bays.
+// What the machine keeps besides the word store and the bays, and how its runs end.
+use script::ending::Ending;
 
 // What a return needs: the instruction to go on with, and where the caller's frame starts.
 #[derive(Clone, Copy)]
@@ -28,4 +29,11 @@ pub struct Machine {
     pub depth: usize,
     pub calls: usize,
     pub frames: Frames,
+}
+
+// How a run has ended, and at which record.
+#[derive(Clone, Copy)]
+pub struct RunEnd {
+    pub ending: Ending,
+    pub place: usize,
 }

@@ -1,16 +1,20 @@
--- The lists lent for the bindings: dropping changes nothing in them, binding writes next to the bindings.
+-- The lists lent for the bindings: dropping changes nothing in them, binding writes next to the bindings, and a
+-- variable is read and assigned at its newest binding.
 use mathlib.Core.Path.{_≡_, refl, sym, _∙_, ap}
 use mathlib.Core.List.{List, [], _∷_, _++_, map, reverse, reverseAux, reverseAux-eq, reverseAux-append}
-use mathlib.Core.Bool.{Bool}
+use mathlib.Core.Bool.{Bool, true, false, cond, true≢false}
 use Prim.Native.Nat.{ℕ, zero, suc, _+_, _-_, _≤_}
 use native.Mathlib.Omega.{arith}
-use lib.ListN.{length, take, drop, length-drop, length-append, length-map}
-use lib.Seq.{take-append-seam, drop-append-add}
+use lib.Dec.{eqb}
+use lib.ListN.{length, take, drop, getD, set, length-drop, length-append, length-map}
+use lib.Seq.{take-append-seam, drop-append-add, getD-append-seam, set-append-seam}
 use Rattle.std.proofs.shelf.Lists.{length-reverse, reverse-reverse}
+use Rattle.std.specs.declared.option.Option.{Option}
+use Rattle.std.specs.declared.option.Option.the-variants.{Some, None}
 use Rattle.kinds.specs.Kinds.{Kind}
-use Rattle.syntax.specs.Syntax.{VariableDeclaration, bindNames, nameOf, Program, globalsOf}
-use Rattle.treerun.specs.TreeRun.{Setting, State, store, withWords, bindWords, dropTo, bindVariables, bindParameters}
-use Rattle.treerun.specs.TreeRun.{settingOf, runProgram}
+use Rattle.syntax.specs.Syntax.{VariableDeclaration, bindNames, nameOf, Program, globalsOf, locate}
+use Rattle.treerun.specs.TreeRun.{Setting, State, lookUp, store, withWords, bindWords, dropTo, bindVariables}
+use Rattle.treerun.specs.TreeRun.{bindParameters, settingOf, runProgram}
 use Rattle.treerun.specs.Laws.{stateLeft}
 use Rattle.treerun.specs.Lent.{lentNames, lentWords, writtenFrom, numberOf, LentListsHold}
 use Rattle.treerun.proofs.Keeps.{Steps, main-keeps}
@@ -48,6 +52,20 @@ module _ {A : Type 0} where
       ∙ (written-next (reverse ys) xs past
       ∙ ap (λ (l : List A). writtenFrom (length xs) l (reverseAux xs past)) (reverse-reverse ys))
 
+  -- The element behind those put back, and that element changed.
+  behind : (xs past : List A) (x d : A) → getD (reverseAux xs (x ∷ past)) (length xs) d ≡ x
+  behind xs past x d =
+      ap (λ (l : List A). getD l (length xs) d) (reverseAux-eq xs (x ∷ past))
+      ∙ (ap (λ (n : ℕ). getD (reverse xs ++ (x ∷ past)) n d) (sym (length-reverse xs))
+      ∙ getD-append-seam (reverse xs) x past d)
+
+  behind-changed : (xs past : List A) (x y : A) →
+      set (reverseAux xs (x ∷ past)) (length xs) y ≡ reverseAux xs (y ∷ past)
+  behind-changed xs past x y =
+      ap (λ (l : List A). set l (length xs) y) (reverseAux-eq xs (x ∷ past))
+      ∙ (ap (λ (n : ℕ). set (reverse xs ++ (x ∷ past)) n y) (sym (length-reverse xs))
+      ∙ (set-append-seam (reverse xs) x past y ∙ sym (reverseAux-eq xs (y ∷ past))))
+
   length-aux : (xs past : List A) → length (reverseAux xs past) ≡ length xs + length past
   length-aux xs past = ap length (reverseAux-eq xs past)
       ∙ omega (arith, length-append (reverse xs) past, length-reverse xs)
@@ -57,6 +75,52 @@ module _ {A : Type 0} where
       length (reverseAux xs past) ≤ length (reverseAux ys (drop n past))
   no-fewer n xs ys past h =
       omega (arith, length-aux xs past, length-aux ys (drop n past), length-drop n past)
+
+some-same : {i j : ℕ} → Some i ≡ Some j → i ≡ j
+some-same e = ap place e
+  where
+    place : Option ℕ → ℕ
+    place None = 0
+    place (Some i) = i
+
+none-is-not-some : {i : ℕ} → None ≡ Some i → ⊥
+none-is-not-some e = true≢false (ap missing e)
+  where
+    missing : Option ℕ → Bool
+    missing None = true
+    missing (Some i) = false
+
+module _ {W : Type 0} (x i : ℕ) where
+  -- A name's newest binding is read at its place in the list lent, and written there.
+  read-at : (d : W) (ns : List ℕ) (ws past : List W) → length ns ≡ length ws → locate x ns ≡ Some i →
+      lookUp d x ns ws ≡ getD (reverseAux ws past) i d
+  read-at d [] ws past l e = absurd (none-is-not-some e)
+  read-at d (n ∷ ns) [] past l e = absurd (omega arith)
+  read-at d (n ∷ ns) (w ∷ ws) past l e =
+      at (eqb x n) e (read-at d ns ws (w ∷ past) (omega arith))
+    where
+      at : (b : Bool) → cond b (Some (length ns)) (locate x ns) ≡ Some i →
+          (locate x ns ≡ Some i → lookUp d x ns ws ≡ getD (reverseAux ws (w ∷ past)) i d) →
+          cond b w (lookUp d x ns ws) ≡ getD (reverseAux ws (w ∷ past)) i d
+      at true e h =
+          let here : length ws ≡ i = omega (arith, some-same e) in
+          sym (behind ws past w d) ∙ ap (λ (k : ℕ). getD (reverseAux ws (w ∷ past)) k d) here
+      at false e h = h e
+
+  assigned-at : (v : W) (ns : List ℕ) (ws past : List W) → length ns ≡ length ws → locate x ns ≡ Some i →
+      reverseAux (store x v ns ws) past ≡ set (reverseAux ws past) i v
+  assigned-at v [] ws past l e = absurd (none-is-not-some e)
+  assigned-at v (n ∷ ns) [] past l e = absurd (omega arith)
+  assigned-at v (n ∷ ns) (w ∷ ws) past l e =
+      at (eqb x n) e (assigned-at v ns ws (w ∷ past) (omega arith))
+    where
+      at : (b : Bool) → cond b (Some (length ns)) (locate x ns) ≡ Some i →
+          (locate x ns ≡ Some i → reverseAux (store x v ns ws) (w ∷ past) ≡ set (reverseAux ws (w ∷ past)) i v) →
+          reverseAux (cond b (v ∷ ws) (w ∷ store x v ns ws)) past ≡ set (reverseAux ws (w ∷ past)) i v
+      at true e h =
+          let here : length ws ≡ i = omega (arith, some-same e) in
+          sym (behind-changed ws past w v) ∙ ap (λ (k : ℕ). set (reverseAux ws (w ∷ past)) k v) here
+      at false e h = h e
 
 module _ {W : Type 0} where
   -- A state's lists are no shorter than those of an earlier one.
@@ -137,6 +201,8 @@ lent-lists-hold {W} kind = record {
       (sym (length-map ds (λ (d : VariableDeclaration). kind .literal (numberOf d))));
   names-given = λ parameters ws σ. written-in-order (length parameters) parameters (σ .names) (σ .pastNames) refl;
   words-given = λ parameters ws σ. written-next ws (σ .words) (σ .pastWords);
+  word-read = λ x i d σ l e. read-at x i d (σ .names) (σ .words) (σ .pastWords) l e;
+  word-assigned = λ x i w σ l e. assigned-at x i w (σ .names) (σ .words) (σ .pastWords) l e;
   names-no-fewer = λ holds p depth σ. no-shorter holds p depth σ .0;
   words-no-fewer = λ holds p depth σ. no-shorter holds p depth σ .1;
 }

@@ -59,6 +59,19 @@ choice n = node 27 0 0 ∷ node 17 0 0 ∷ node 1 0 n ∷ node 19 0 0 ∷ node 1
 abbrev pub withoutReturn : List Record
 withoutReturn = node 27 1 0 ∷ node 25 0 0 ∷ node 16 0 0 ∷ node 1 0 7 ∷ node 16 0 0 ∷ node 7 0 0 ∷ []
 
+-- int sum (int n)                          function 0, variable 1
+--     if (n) return n + sum (n - 1); else return 0;
+-- return sum (m);
+abbrev pub sumTo : ℕ → List Record
+sumTo m =
+    node 27 1 0
+    ∷ node 25 0 1 ∷ node 26 1 0
+    ∷ node 17 0 0 ∷ node 2 1 0
+    ∷ node 19 0 0 ∷ node 3 0 0 ∷ node 2 1 0 ∷ node 7 0 1 ∷ node 4 0 0 ∷ node 2 1 0 ∷ node 1 0 1
+    ∷ node 19 0 0 ∷ node 1 0 0
+    ∷ node 19 0 0 ∷ node 7 0 1 ∷ node 1 0 m
+    ∷ []
+
 -- { int x = 7; x; }                        variable 0
 abbrev pub blockOfOne : List Record
 blockOfOne = node 27 0 0 ∷ node 20 1 1 ∷ node 24 0 7 ∷ node 16 0 0 ∷ node 2 0 0 ∷ []
@@ -189,6 +202,10 @@ pub record Cases : Type 0 where
   -- A call without a return has the value 0, whatever its body's last statement has; so has a block.
   pub call-without-return : counterReport withoutReturn [] 1 1 ≡ done (pos 0) [] 1
   pub block-has-zero : counterReport blockOfOne [] 0 0 ≡ done (pos 0) [] 0
+  -- In each call the parameter is that call's own. Four calls are open at once, and each spends a fuel.
+  pub sum-to-three : counterReport (sumTo 3) [] 4 4 ≡ done (pos 6) [] 4
+  pub sum-to-three-too-deep : counterReport (sumTo 3) [] 4 3 ≡ endedAt TooDeep 8 [] 3
+  pub sum-to-three-no-fuel : counterReport (sumTo 3) [] 3 4 ≡ endedAt NoFuel 8 [] 3
   -- A return leaves a while; a test that is zero at once has cost a fuel, and the while has the value 0.
   pub return-leaves-while : counterReport (returnInWhile 1) [] 5 0 ≡ done (pos 7) [] 1
   pub while-on-zero : counterReport (returnInWhile 0) [] 5 0 ≡ done (pos 0) [] 1

@@ -137,20 +137,6 @@ ReportIsDetermined {W} kind =
     report (length (globalsOf p)) fuel (runProgram kind holds p depth (unbound names words bays fuel))
     ≡ reportOf kind holds p bays fuel depth
 
--- A run that does not end for want of fuel has the same report with more fuel.
-abbrev pub MoreFuelSameReport : {W : Type 0} → Kind W → Type 0
-MoreFuelSameReport {W} kind =
-    (holds : W → Bool) (p : Program) (depth : ℕ) (bays : List W) (fuel extra : ℕ) →
-    reportOf kind holds p bays fuel depth .ending ≢ NoFuel →
-    reportOf kind holds p bays (extra + fuel) depth ≡ reportOf kind holds p bays fuel depth
-
--- A run that does not end too deep has the same report with a greater depth.
-abbrev pub MoreDepthSameReport : {W : Type 0} → Kind W → Type 0
-MoreDepthSameReport {W} kind =
-    (holds : W → Bool) (p : Program) (depth : ℕ) (bays : List W) (fuel extra : ℕ) →
-    reportOf kind holds p bays fuel depth .ending ≢ TooDeep →
-    reportOf kind holds p bays fuel (extra + depth) ≡ reportOf kind holds p bays fuel depth
-
 -- The names of a program's global variables are the oldest that its run leaves bound, a word is reported for each,
 -- and there are as many bays as before.
 pub record GlobalsAndBays {W : Type 0} (kind : Kind W) (holds : W → Bool) (p : Program) (depth : ℕ)

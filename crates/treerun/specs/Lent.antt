@@ -1,13 +1,14 @@
--- The lists lent for the bindings, as a state leaves them: what binding and dropping do to them.
+-- The lists lent for the bindings, as a state leaves them: what binding, dropping, reading and assigning do.
 use mathlib.Core.Path.{_≡_}
 use mathlib.Core.List.{List, _++_, map, reverse, reverseAux}
 use mathlib.Core.Bool.{Bool}
 use Prim.Native.Nat.{ℕ, _+_, _≤_}
-use lib.ListN.{length, take, drop}
+use lib.ListN.{length, take, drop, getD, set}
 use lib.IntN.{ℤ}
+use Rattle.std.specs.declared.option.Option.the-variants.{Some}
 use Rattle.kinds.specs.Kinds.{Kind}
-use Rattle.syntax.specs.Syntax.{VariableDeclaration, declare, Program, nameOf}
-use Rattle.treerun.specs.TreeRun.{State, dropTo, bindVariables, bindParameters, runProgram}
+use Rattle.syntax.specs.Syntax.{VariableDeclaration, declare, Program, nameOf, locate}
+use Rattle.treerun.specs.TreeRun.{State, lookUp, store, withWords, dropTo, bindVariables, bindParameters, runProgram}
 use Rattle.treerun.specs.Laws.{stateLeft}
 
 module _ {W : Type 0} where
@@ -42,6 +43,12 @@ module _ {W : Type 0} (kind : Kind W) where
     -- The words of arguments stand newest first.
     pub words-given : (parameters : List ℕ) (ws : List W) (σ : State W) →
         lentWords (bindParameters parameters ws σ) ≡ writtenFrom (length (σ .words)) (reverse ws) (lentWords σ)
+    -- A variable is read and assigned at its newest binding, which stands as far in as there are older ones.
+    pub word-read : (x i : ℕ) (default : W) (σ : State W) → length (σ .names) ≡ length (σ .words) →
+        locate x (σ .names) ≡ Some i → lookUp default x (σ .names) (σ .words) ≡ getD (lentWords σ) i default
+    pub word-assigned : (x i : ℕ) (w : W) (σ : State W) → length (σ .names) ≡ length (σ .words) →
+        locate x (σ .names) ≡ Some i →
+        lentWords (withWords (store x w (σ .names) (σ .words)) σ) ≡ set (lentWords σ) i w
     -- No run makes the lists shorter.
     pub names-no-fewer : (holds : W → Bool) (p : Program) (depth : ℕ) (σ : State W) →
         length (lentNames σ) ≤ length (lentNames (stateLeft (runProgram kind holds p depth σ)))

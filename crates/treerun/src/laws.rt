@@ -1,6 +1,5 @@
 // The laws of the tree run, each the contract of one function, at every number kind.
 ghost use Rattle.treerun.specs.Laws.{ClocksAgree, PartsKeepBindings, RunIsDetermined};
-ghost use Rattle.treerun.specs.Laws.{MoreDepthSameReport, MoreFuelSameReport};
 ghost use Rattle.treerun.specs.Laws.{ReportIsDetermined, RunKeepsGlobalsAndBays};
 ghost use Rattle.treerun.specs.Laws.{TicksWithinFuel, WhileBeginsOver};
 ghost use Rattle.treerun.specs.Lent.{LentListsHold};
@@ -56,20 +55,6 @@ pub fn report_is_determined<W: NumberKind>() -> u8
     0
 }
 
-// More fuel changes nothing in a run that does not end for want of it.
-pub fn more_fuel_same_report<W: NumberKind>() -> u8
-    ensures { λ _. ⌜ MoreFuelSameReport (W·NumberKind .kind) ⌝ }
-{
-    0
-}
-
-// A greater depth changes nothing in a run that does not end too deep.
-pub fn more_depth_same_report<W: NumberKind>() -> u8
-    ensures { λ _. ⌜ MoreDepthSameReport (W·NumberKind .kind) ⌝ }
-{
-    0
-}
-
 // A run leaves the program's globals its oldest bindings, and as many bays as there were.
 pub fn run_keeps_globals_and_bays<W: NumberKind>() -> u8
     ensures { λ _. ⌜ RunKeepsGlobalsAndBays (W·NumberKind .kind) ⌝ }
@@ -77,7 +62,7 @@ pub fn run_keeps_globals_and_bays<W: NumberKind>() -> u8
     0
 }
 
-// Dropping changes nothing in the lists lent for the bindings; binding writes next to the bindings that stand.
+// What binding, dropping, reading and assigning do, by the lists lent for the bindings.
 pub fn lent_lists_hold<W: NumberKind>() -> u8
     ensures { λ _. ⌜ LentListsHold (W·NumberKind .kind) ⌝ }
 {

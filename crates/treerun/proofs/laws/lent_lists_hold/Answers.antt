@@ -1,4 +1,4 @@
--- What binding and dropping do to the lists lent.
+-- What binding, dropping, reading and assigning do, by the lists lent.
 use Rattle.treerun.proofs.LentLists.{lent-lists-hold}
 use Rattle.treerun.proofs.laws.lent_lists_hold.Needs as need
 
