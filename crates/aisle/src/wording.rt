@@ -68,6 +68,31 @@ pub impl fmt::Display for Explained as ExplainedDisplay {
                 f,
                 "the program ends before record {record}, and nothing may follow it"
             ),
+            Refusal::DeclaredTwice(record) => {
+                write!(
+                    f,
+                    "record {record} declares a name that is declared before it, where it would be seen twice"
+                )
+            }
+            Refusal::Undeclared(record) => write!(
+                f,
+                "record {record} uses a name that is not declared where it stands"
+            ),
+            Refusal::ArgumentCount(record) => {
+                write!(
+                    f,
+                    "record {record} calls its function with more or fewer arguments than it has parameters"
+                )
+            }
+            Refusal::FrameNeed => write!(
+                f,
+                "a function or the main statement needs more than 100 words in its frame"
+            ),
+            Refusal::FuelOrDepth => write!(f, "fuel is 0 to 1000000 and depth is 0 to 63"),
+            Refusal::TooFewWords(wanted) => write!(
+                f,
+                "a slice that is lent is too short: {wanted} elements are wanted"
+            ),
         }
     }
 }
