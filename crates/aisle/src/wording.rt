@@ -1,9 +1,11 @@
-// What is printed of a record and of a refusal, for the technician who drew the table.
+// What is printed of a record, a refusal and an ending, for the technician who drew the table.
+use script::Ending;
 use script::Record;
 use script::Refusal;
 use script::rows::NodeKind;
 use script::rows::Operator;
 use script::rows::row_of;
+use std::error::AnyError;
 use std::fmt;
 
 // A record: which node it is, and the fields that have a meaning there.
@@ -93,6 +95,29 @@ pub impl fmt::Display for Explained as ExplainedDisplay {
                 f,
                 "a slice that is lent is too short: {wanted} elements are wanted"
             ),
+        }
+    }
+}
+
+pub fn print_refusal(rt: &LibcRuntime, refusal: Refusal) -> Result<(), AnyError> {
+    println!(rt, "refusal {}, tells {}", refusal.number(), refusal.tells())?;
+    println!(rt, "{}", Explained(refusal))?;
+    Ok(())
+}
+
+// An ending and its place as a sentence.
+#[derive(Clone, Copy)]
+pub struct Ended(pub Ending, pub usize);
+
+pub impl fmt::Display for Ended as EndedDisplay {
+    fn fmt<W: fmt::Write>(&self, f: &mut fmt::Formatter<W>) -> fmt::Result {
+        let place = self.1;
+        match self.0 {
+            Ending::Done => write!(f, "the program came to its end"),
+            Ending::NoFuel => write!(f, "the fuel was spent at record {place}"),
+            Ending::TooDeep => write!(f, "record {place} calls a function while as many calls are open as the depth allows"),
+            Ending::NoSuchBay => write!(f, "record {place} names a bay that there is not"),
+            Ending::CannotHold => write!(f, "record {place} writes a word that its bay cannot hold"),
         }
     }
 }
