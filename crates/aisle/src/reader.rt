@@ -50,7 +50,10 @@ pub impl fmt::Display for Fault as FaultDisplay {
                     "line {line}: the third number of a record is from -2147483648 to 2147483647"
                 )
             }
-            Problem::SettingRange => write!(f, "line {line}: a setting is a number from 0 to 4294967295"),
+            Problem::SettingRange => write!(
+                f,
+                "line {line}: a setting is a number from 0 to 4294967295"
+            ),
             Problem::Incomplete => write!(
                 f,
                 "line {line}: the text ends within a record, which is three numbers, or within a setting"
@@ -234,8 +237,14 @@ impl TableReader {
             line,
         } = self;
         match begun {
-            Begun::Nothing => Ok(Job { table: records, settings }),
-            Begun::Setting(_) | Begun::Kind(_) | Begun::KindAndName(_, _) => Err(no_table(line, Problem::Incomplete)),
+            Begun::Nothing => Ok(Job {
+                table: records,
+                settings,
+            }),
+            Begun::Setting(_) | Begun::Kind(_) | Begun::KindAndName(_, _) => Err(no_table(
+                line,
+                Problem::Incomplete,
+            )),
         }
     }
 }

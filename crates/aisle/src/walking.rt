@@ -34,7 +34,12 @@ fn print_bays(rt: &LibcRuntime, bays: &BayTable) -> io::Result<()> {
 }
 
 fn print_report(rt: &LibcRuntime, report: Report) -> io::Result<()> {
-    println!(rt, "ending {}, place {}", report.ending.number(), report.place)?;
+    println!(
+        rt,
+        "ending {}, place {}",
+        report.ending.number(),
+        report.place
+    )?;
     println!(rt, "{}", Ended(report.ending, report.place))?;
     if let Some(word) = report.answer {
         println!(rt, "answer {word}")?;
@@ -48,7 +53,14 @@ pub fn walk_job(rt: &LibcRuntime, job: &Job) -> Result<(), AnyError> {
     let mut names = vec![in heap; 0u16; size]?;
     let mut words = vec![in heap; 0i32; size]?;
     let mut bays = BayTable::new(job.settings.bays as usize);
-    match walk(&job.table, &mut names, &mut words, &mut bays, job.settings.fuel, job.settings.depth) {
+    match walk(
+        &job.table,
+        &mut names,
+        &mut words,
+        &mut bays,
+        job.settings.fuel,
+        job.settings.depth,
+    ) {
         Ok(report) => {
             print_report(rt, report)?;
             if let Ok(summary) = check_table(&job.table) {

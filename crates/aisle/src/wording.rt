@@ -100,7 +100,12 @@ pub impl fmt::Display for Explained as ExplainedDisplay {
 }
 
 pub fn print_refusal(rt: &LibcRuntime, refusal: Refusal) -> Result<(), AnyError> {
-    println!(rt, "refusal {}, tells {}", refusal.number(), refusal.tells())?;
+    println!(
+        rt,
+        "refusal {}, tells {}",
+        refusal.number(),
+        refusal.tells()
+    )?;
     println!(rt, "{}", Explained(refusal))?;
     Ok(())
 }
@@ -115,9 +120,15 @@ pub impl fmt::Display for Ended as EndedDisplay {
         match self.0 {
             Ending::Done => write!(f, "the program came to its end"),
             Ending::NoFuel => write!(f, "the fuel was spent at record {place}"),
-            Ending::TooDeep => write!(f, "record {place} calls a function while as many calls are open as the depth allows"),
+            Ending::TooDeep => write!(
+                f,
+                "record {place} calls a function while as many calls are open as the depth allows"
+            ),
             Ending::NoSuchBay => write!(f, "record {place} names a bay that there is not"),
-            Ending::CannotHold => write!(f, "record {place} writes a word that its bay cannot hold"),
+            Ending::CannotHold => write!(
+                f,
+                "record {place} writes a word that its bay cannot hold"
+            ),
         }
     }
 }

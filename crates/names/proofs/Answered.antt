@@ -1,7 +1,10 @@
 -- What the answer for a table says of its program.
 use mathlib.Core.Path.{_≡_, refl, sym, _∙_, ap, subst}
 use mathlib.Core.List.{List}
-use Prim.Native.Nat.{ℕ}
+use Prim.Native.Nat.{ℕ, _<_, _≤_}
+use lib.ListN.{length}
+use Rattle.std.specs.Vec.{made}
+use Rattle.script.specs.declared.rows.Sort.the-variants.{Program}
 use native.Mathlib.Omega.{arith}
 use Rattle.std.specs.declared.result.Result.{Result}
 use Rattle.std.specs.declared.result.Result.the-variants.{Ok, Err}
@@ -16,7 +19,9 @@ use Rattle.names.specs.Passes.{outcome}
 use Rattle.names.specs.Scoped.{WellNamed}
 use Rattle.names.specs.Tables.{summaryOf, checkedNames, tableRules}
 use Rattle.names.specs.Laws.{RightlyAnswered}
-use Rattle.names.proofs.Outcomes.{never}
+use Rattle.syntax.specs.Trees.{treeAt, Sound}
+use Rattle.syntax.proofs.Shaped.{Shaped, shaped}
+use Rattle.names.proofs.Outcomes.{never, went}
 use Rattle.names.proofs.Acceptance.{passes-where-well-named}
 
 module _ (table : List Record) where
@@ -36,3 +41,33 @@ module _ (table : List Record) where
 
   pub rightly-answered : (r : Result Summary Refusal) → r ≡ tableRules table → RightlyAnswered table r
   rightly-answered r e = subst (RightlyAnswered table) (sym e) (by-shape (shape table) (λ y q shaped. shaped y q))
+
+  -- A table that the shape check takes.
+  pub shape-bounds : (r : Answer) → r ≡ shape table → made r (λ _. (0 < length table) × (length table ≤ 1024))
+  shape-bounds (Ok tt) e = let p = shaped table (sym e) in (p .some, p .few)
+  shape-bounds (Err y) e = tt
+
+  pub shape-sound : (r : Answer) → r ≡ shape table → made r (λ _. Sound (treeAt table 0) Program)
+  shape-sound (Ok tt) e = shaped table (sym e) .sound
+  shape-sound (Err y) e = tt
+
+-- An accepted table: it is a sound program, its program is well named, and what is told of it.
+pub record AcceptedTable (table : List Record) (s : Summary) : Type 0 where
+  pub shape-fits : Shaped table
+  pub rules-pass : nameRules (programOf table) ≡ Ok tt
+  pub well-named : WellNamed (programOf table)
+  pub told : s ≡ summaryOf table
+
+pub accepted-table : (table : List Record) (s : Summary) → Ok s ≡ tableRules table → AcceptedTable table s
+accepted-table table s e = go (shape table) refl e
+  where
+    go : (q : Answer) → shape table ≡ q → Ok s ≡ andThen q (λ n. checkedNames table) → AcceptedTable table s
+    go (Ok tt) p h =
+        let w = went (nameRules (programOf table)) (summaryOf table) s h in
+        record {
+          shape-fits = shaped table p;
+          rules-pass = w .0;
+          well-named = passes-where-well-named (programOf table) .0 (w .0);
+          told = w .1;
+        }
+    go (Err y) p h = absurd (let z : _≡_ {A = ℕ} 0 1 = cc in omega arith)

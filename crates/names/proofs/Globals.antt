@@ -21,7 +21,7 @@ use Rattle.names.specs.declared.signature.Signature.{Signature}
 use Rattle.names.specs.Need.{needFunctions, needStatement}
 use Rattle.names.specs.Names.{Answer, unless, _⨟_, globalRules, isFunction, signature}
 use Rattle.names.specs.Passes.{outcome}
-use Rattle.names.proofs.Outcomes.{twice, anew, went, refused-after}
+use Rattle.names.proofs.Outcomes.{twice, went, refused-after}
 
 abbrev measured : ℕ → ℕ → Measured
 measured w n = record { words = w; next = n }

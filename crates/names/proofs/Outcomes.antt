@@ -1,7 +1,7 @@
 -- An answer of the rules to one who goes on with a value: the first refusal stands, and past an answer that is fine
 -- the next one counts.
 use mathlib.Core.Path.{_≡_, refl, sym, _∙_, ap}
-use mathlib.Core.Bool.{Bool, true, false, not}
+use mathlib.Core.Bool.{Bool, true, not}
 use Prim.Native.Nat.{ℕ}
 use native.Mathlib.Omega.{arith}
 use Rattle.std.specs.declared.result.Result.{Result}
@@ -45,11 +45,6 @@ module _ {A : Type 0} where
   pub both-fine : (a b : Answer) (n m : A) → a ≡ Ok tt → b ≡ Ok tt → n ≡ m → Ok n ≡ outcome (a ⨟ b) m
   both-fine a b n m p q e = rw (p, q, e) refl
 
-  -- A name that is declared already, and one that is not.
+  -- A name that is declared already.
   pub twice : (b : Bool) (y : Refusal) (a : Answer) (m : A) → b ≡ true → Err y ≡ outcome (unless (not b) y ⨟ a) m
   twice b y a m p = rw p refl
-
-  pub anew : (b : Bool) (y : Refusal) (a : Answer) (n m : A) (r : Result A Refusal) → b ≡ false → n ≡ m → r
-      ≡ outcome a n →
-      r ≡ outcome (unless (not b) y ⨟ a) m
-  anew b y a n m r p q h = rw (p, ← q) h

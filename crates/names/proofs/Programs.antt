@@ -1,10 +1,8 @@
 -- The rules of a whole program, one pass after another.
 use mathlib.Core.Path.{_≡_, refl, sym, _∙_, ap}
 use mathlib.Core.List.{List, [], _∷_, _++_, map, reverse}
-use mathlib.Core.Bool.{true, false}
-use Prim.Native.Nat.{ℕ, _<_, _≤_, max}
+use Prim.Native.Nat.{ℕ}
 use lib.Dec.{leb}
-use borrow.Author.Tests.{lt-leb, le-leb}
 use Rattle.std.specs.declared.result.Result.{Result}
 use Rattle.std.specs.declared.result.Result.the-variants.{Ok, Err}
 use Rattle.script.specs.declared.refusal.Refusal.{Refusal}
@@ -70,11 +68,11 @@ module _ {A : Type 0} (p : Program) (m : A) where
     unfolding found
     bodies-refused n y h = rw (remaining, fine) (refused found (unless (leb (largestNeed p) 100) FrameNeed) n m y h)
 
-    module _ (bodies : bodyRules p (reverse globals) functions ≡ Ok tt) where
-      pub too-much : 100 < largestNeed p → Err FrameNeed ≡ outcome (nameRules p) m
+    module _ (bodies : bodyRules p (reverse globals) functions ≡ Ok tt) (need : ℕ) (is : need ≡ largestNeed p) where
+      pub need-refused : (y : Refusal) → Err y ≡ unless (leb need 100) FrameNeed → Err y ≡ outcome (nameRules p) m
       unfolding found
-      too-much h = rw (remaining, fine, bodies, lt-leb (largestNeed p) 100 h) refl
+      need-refused y h = rw (remaining, fine, bodies, ← is, ← h) refl
 
-      pub accepted : largestNeed p ≤ 100 → Ok m ≡ outcome (nameRules p) m
+      pub accepted : Ok tt ≡ unless (leb need 100) FrameNeed → Ok m ≡ outcome (nameRules p) m
       unfolding found
-      accepted h = rw (remaining, fine, bodies, le-leb (largestNeed p) 100 h) refl
+      accepted h = rw (remaining, fine, bodies, ← is, ← h) refl

@@ -1,7 +1,7 @@
 -- The names in scope, one local after another, and dropped again.
 use mathlib.Core.Path.{_≡_, refl, sym, _∙_, ap}
 use mathlib.Core.List.{List, [], _∷_, _++_, map, reverse, append-assoc}
-use mathlib.Core.Bool.{true, false}
+use mathlib.Core.Bool.{not}
 use Prim.Native.Nat.{ℕ, _+_}
 use lib.IntN.{ℤ}
 use lib.ListN.{length, take}
@@ -14,29 +14,26 @@ use Rattle.script.specs.declared.refusal.Refusal.the-variants.{DeclaredTwice}
 use Rattle.syntax.specs.Syntax.{VariableDeclaration, declare, Statement, Statements, nameOf, bindNames}
 use Rattle.syntax.proofs.Statements.{bound}
 use Rattle.names.specs.declared.signature.Signature.{Signature}
-use Rattle.names.specs.Names.{Answer, localRules, statementRules, blockRules, declared}
+use Rattle.names.specs.Names.{Answer, unless, localRules, statementRules, blockRules, declared}
 use Rattle.names.specs.Passes.{outcome}
-use Rattle.names.proofs.Outcomes.{twice, anew}
+use Rattle.names.proofs.Outcomes.{refused-own, on}
 
 -- A declaration of x at a place, and others after it: `seen` are the names that the search went through.
 module _ (globals : List ℕ) (ds es : List VariableDeclaration) (a x : ℕ) (v : ℤ) (scope seen : List ℕ)
     (first : ds ≡ declare a x v ∷ es) (same : seen ≡ scope) where
-  pub local-again : (m : ℕ) → true ≡ declared globals x (reverse seen) → Err (DeclaredTwice a)
-      ≡ outcome (localRules globals ds (reverse scope)) m
-  local-again m p =
-      rw (first, ← same) (twice (declared globals x (reverse seen)) (DeclaredTwice a)
-      (localRules globals es (x ∷ reverse seen)) m (sym p))
+  abbrev newRule : Answer
+  newRule = unless (not (declared globals x (reverse seen))) (DeclaredTwice a)
+
+  pub local-again : (m : ℕ) (y : Refusal) → Err y ≡ newRule → Err y ≡ outcome (localRules globals ds (reverse scope)) m
+  local-again m y p = rw (first, ← same) (refused-own newRule (localRules globals es (x ∷ reverse seen)) m y p)
 
   module _ (after : List ℕ) (r : Result ℕ Refusal) (pushed : after ≡ scope ++ x ∷ []) where
-    pub local-new : (n m : ℕ) → false ≡ declared globals x (reverse seen) → n ≡ m → r
-        ≡ outcome (localRules globals es (reverse after)) n →
+    pub local-new : (n m : ℕ) → Ok tt ≡ newRule → n ≡ m → r ≡ outcome (localRules globals es (reverse after)) n →
         r ≡ outcome (localRules globals ds (reverse scope)) m
     local-new n m p q h =
-        let e : reverse after ≡ x ∷ reverse scope = ap reverse pushed ∙ reverse-append scope (x ∷ []) in
-        let h′ : r ≡ outcome (localRules globals es (x ∷ reverse scope)) n = rw e at h in
-        rw first (anew (declared globals x (reverse scope)) (DeclaredTwice a)
-        (localRules globals es (x ∷ reverse scope)) n m r
-        (ap (λ (l : List ℕ). declared globals x (reverse l)) (sym same) ∙ sym p) q h′)
+        let e : reverse after ≡ x ∷ reverse seen = ap reverse pushed ∙ (reverse-append scope (x ∷ []) ∙ rw same refl) in
+        let h′ : r ≡ outcome (localRules globals es (x ∷ reverse seen)) n = rw e at h in
+        rw (first, ← same) (on newRule (localRules globals es (x ∷ reverse seen)) n m r (sym p) q h′)
 
     pub one-more : (out : List ℕ) → made r (λ _. out ≡ after ++ map nameOf es) → made r
         (λ _. out ≡ scope ++ map nameOf ds)

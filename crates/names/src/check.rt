@@ -7,10 +7,13 @@ ghost use denote.Ref.{name};
 ghost use Rattle.std.specs.Vec.{made};
 ghost use Rattle.stack.specs.Store.{contents, capacity};
 ghost use Rattle.script.specs.declared.rows.Sort.the-variants.{Program};
+ghost use Rattle.script.specs.Shape.{shape};
 ghost use Rattle.syntax.specs.Syntax.{nameOf, globalsOf, functionsOf};
 ghost use Rattle.syntax.specs.Trees.{treeAt, Sound};
 ghost use Rattle.syntax.specs.Typed.{programOf};
-ghost use Rattle.names.specs.Names.{signature as signatureOf};
+ghost use lib.Dec.{leb};
+ghost use Rattle.script.specs.declared.refusal.Refusal.the-variants.{FrameNeed};
+ghost use Rattle.names.specs.Names.{unless, signature as signatureOf};
 ghost use Rattle.names.specs.Laws.{RightlyAnswered};
 ghost use Rattle.names.specs.Tables.{checkedBodies, checkedNames, tableRules};
 use crate::frame::statement as measure;
@@ -44,6 +47,17 @@ fn check_bodies(
     Ok(main)
 }
 
+// A frame uses at most 100 words.
+fn check_need(need: usize) -> Result<(), Refusal>
+    ensures { λ r. ⌜ r ≡ unless (leb need 100) FrameNeed ⌝ }
+{
+    if need > 100 {
+        Err(Refusal::FrameNeed)
+    } else {
+        Ok(())
+    }
+}
+
 // The names of a table of accepted shape. The two stacks, with room for 128, then hold the names of the global
 // variables and the signatures of the functions, each in the order of their declaration.
 pub fn check_names(
@@ -69,9 +83,7 @@ pub fn check_names(
     let found = declarations(table, count, 1, globals, functions)?;
     let main = check_bodies(table, globals.live(), functions.live())?;
     let need = measure(table, main).words.max(found.words);
-    if need > 100 {
-        return Err(Refusal::FrameNeed);
-    }
+    check_need(need)?;
     Ok(Summary {
         globals: globals.live().len(),
         functions: functions.live().len(),
@@ -80,12 +92,21 @@ pub fn check_names(
     })
 }
 
+// The shape of a table: one that passes is a program that the other checks can take.
+fn check_sound(table: &[Record]) -> Result<(), Refusal>
+    ensures answer { λ r. ⌜ r ≡ shape (now (table .entry)) ⌝ }
+    ensures within { λ r. ⌜ made r (λ _. (0 < length (now (table .entry))) × (length (now (table .entry)) ≤ 1024)) ⌝ }
+    ensures sound { λ r. ⌜ made r (λ _. Sound (treeAt (now (table .entry)) 0) Program) ⌝ }
+{
+    check_shape(table)
+}
+
 // A table's shape, then its names and frame need.
 pub fn check_table(table: &[Record]) -> Result<Summary, Refusal>
     ensures answer { λ r. ⌜ r ≡ tableRules (now (table .entry)) ⌝ }
     ensures meaning { λ r. ⌜ RightlyAnswered (now (table .entry)) r ⌝ }
 {
-    check_shape(table)?;
+    check_sound(table)?;
     let mut names: [u16; 128] = [0; 128];
     let mut signatures = [Signature {
         name: 0,

@@ -11,7 +11,7 @@ ghost use Rattle.syntax.specs.Trees.{treeAt, pieces, Sound, Sounds, Leaves};
 ghost use Rattle.syntax.specs.Typed.{variablesAt};
 ghost use Rattle.names.specs.Passes.{checkedLocals, checkedStatement, checkedStatements};
 use crate::expressions::expression;
-use crate::lookups::is_declared;
+use crate::lookups::check_new;
 use crate::signature::Signature;
 use script::Record;
 use script::Refusal;
@@ -43,11 +43,17 @@ pub fn locals(
         return Ok(at);
     }
     let node = table[at];
-    if is_declared(globals, scope.live(), node.a) {
-        return Err(Refusal::DeclaredTwice(at));
-    }
+    check_new(node.a, at, globals, scope.live())?;
     scope.push(node.a);
     locals(table, count - 1, at + 1, globals, scope)
+}
+
+// The locals of a block are no longer in scope.
+fn leave_block(scope: &mut Stack<'_, u16>, mark: usize)
+    ensures words { λ _. ⌜ now (now (scope .exit) .words) ≡ now (now (scope .entry) .words) ⌝ }
+    ensures height { λ _. ⌜ now (scope .exit) .height ≡ mark ⌝ }
+{
+    scope.cut(mark);
 }
 
 // The statement at `at`: the index after it. A block's locals are in scope up to its end.
@@ -81,7 +87,7 @@ pub fn statement(
                 functions,
                 scope,
             )?;
-            scope.cut(mark);
+            leave_block(scope, mark);
             Ok(next)
         }
         _ => {

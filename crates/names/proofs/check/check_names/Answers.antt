@@ -21,7 +21,7 @@ use Rattle.names.specs.Passes.{outcome}
 use Rattle.names.specs.Tables.{mainAt, summaryOf}
 use Rattle.names.proofs.Outcomes.{went}
 use Rattle.names.proofs.Programs.{global-rules, variables-are, signatures-are, globals-refused, bodies-refused}
-use Rattle.names.proofs.Programs.{too-much, accepted}
+use Rattle.names.proofs.Programs.{need-refused, accepted}
 use Rattle.names.proofs.check.check_names.Needs as need
 
 same-summary : (a b c d a′ b′ c′ d′ : ℕ) → a ≡ a′ → b ≡ b′ → c ≡ c′ → d ≡ d′ →
@@ -106,8 +106,8 @@ statement-requires c κs =
     (c .pre .sound) refl (v .1) in
     record { within = p .within; sound = p .body }
 
-pub returns-then-need-gt100 : need.returns-then-need-gt100
-returns-then-need-gt100 c =
+pub returns-in-Break-check-need : need.returns-in-Break-check-need
+returns-in-Break-check-need c =
     let table : List Record = c .args .table .now in
     let program : Program = programOf table in
     let p = programmed table (getD table 0 noRecord .a) (mainAt table) noRecord (c .pre .within .0) (c .pre .sound)
@@ -135,8 +135,9 @@ returns-then-need-gt100 c =
     let own : c .statement .result .words ≡ needStatement (program .main) = c .statement .ensures .words
     ∙ ap needStatement (sym main) in
     let need : c .max-need .result ≡ largestNeed program = omega (arith, c .max-need .ensures) in
-    record {
-      answer = too-much program _ fine _ _ names calls (v .0) (omega arith);
+    let q = err-from-errBy (c .from-residual-in-Break-check-need .result) (c .from-residual-in-Break-check-need .ensures .1) in
+    rw (q .1, q .2) record {
+      answer = need-refused program _ fine _ _ names calls (v .0) _ need _ (c .in-Break-check-need .ensures tt);
       variables = tt;
       signatures = tt;
       lenders = (
@@ -180,7 +181,7 @@ returns c =
     let function-count : length (now (c .live-4 .result)) ≡ length (functionsOf (program .declarations)) =
     ap length (c .live-4 .ensures ∙ signatures) ∙ length-map (functionsOf (program .declarations)) signature in
     record {
-      answer = accepted program _ fine _ _ names calls (v .0) (omega arith)
+      answer = accepted program _ fine _ _ names calls (v .0) _ need (c .in-Continue-check-need .ensures tt)
           ∙ ap (outcome (nameRules program)) (same-summary _ _ _ _ _ _ _ _ variable-count function-count need (v .1));
       variables = variables;
       signatures = signatures;

@@ -1,26 +1,16 @@
 use mathlib.Core.Path.{_≡_, refl, sym, _∙_, ap}
 use mathlib.Core.List.{List}
-use mathlib.Core.Bool.{Bool}
-use borrow.Author.Tests.{eq-eqb, ne-eqb}
 use Rattle.std.proofs.shelf.Lists.{drop-all}
-use Rattle.script.specs.declared.refusal.Refusal.the-variants.{ArgumentCount}
 use Rattle.names.specs.declared.signature.Signature.{Signature}
-use Rattle.names.specs.Names.{callRule, unless}
+use Rattle.names.specs.Names.{callRule}
 use Rattle.names.proofs.Searches.{call-here, call-past}
 use Rattle.names.proofs.lookups.check_call.Needs as need
 
-pub returns-then-function-count : need.returns-then-function-count
-returns-then-function-count c =
-    sym (sym (c .loop-function .inv)
-    ∙ (call-here _ _ _ _ (c .loop-function-test .taken) (c .args .count) (c .args .place) (c .if-function-name .taken)
-    ∙ ap (λ (b : Bool). unless b (ArgumentCount (c .args .place))) (eq-eqb _ _ (sym (c .if-function-count .taken)))))
-
 pub returns-then-function-name : need.returns-then-function-name
 returns-then-function-name c =
-    sym (sym (c .loop-function .inv)
-    ∙ (call-here _ _ _ _ (c .loop-function-test .taken) (c .args .count) (c .args .place) (c .if-function-name .taken)
-    ∙ ap (λ (b : Bool). unless b (ArgumentCount (c .args .place)))
-    (ne-eqb _ _ (λ p. c .if-function-count .left (sym p)))))
+    c .check-count .ensures
+    ∙ sym (sym (c .loop-function .inv)
+    ∙ call-here _ _ _ _ (c .loop-function-test .taken) (c .args .count) (c .args .place) (c .if-function-name .taken))
 
 pub loop-function-again : need.loop-function-again
 loop-function-again c =

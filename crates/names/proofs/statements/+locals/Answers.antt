@@ -2,7 +2,7 @@ use mathlib.Core.Path.{_≡_, refl, sym, _∙_, ap}
 use mathlib.Core.List.{reverse, _++_, []}
 use Prim.Native.Nat.{_<_}
 use native.Mathlib.Omega.{arith}
-use Rattle.std.proofs.shelf.Results.{made-weaker}
+use Rattle.std.proofs.shelf.Results.{err-from-errBy, made-weaker}
 use Rattle.stack.specs.Store.{contents, capacity}
 use Rattle.stack.proofs.Contents.{height-pushed, contents-pushed, capacity-pushed}
 use Rattle.syntax.specs.Trees.{noRecord}
@@ -10,12 +10,13 @@ use Rattle.syntax.proofs.Statements.{declared-first}
 use Rattle.names.proofs.Scopes.{local-again, local-new, one-more}
 use Rattle.names.proofs.statements.+locals.Needs as need
 
-pub returns-then-is-declared : need.returns-then-is-declared
-returns-then-is-declared t c =
+pub returns-in-Break-check-new : need.returns-in-Break-check-new
+returns-in-Break-check-new t c =
     let k : 0 < c .args .count = omega arith in
     let p = declared-first (c .args .table .now) (c .args .at) (c .args .count) noRecord k (c .pre .sound) in
-    record {
-      answer = local-again _ _ _ _ _ _ _ _ (p .is) (c .live .ensures) _ (c .if-is-declared .ensures tt);
+    let q = err-from-errBy (c .from-residual .result) (c .from-residual .ensures .1) in
+    rw (q .1, q .2) record {
+      answer = local-again _ _ _ _ _ _ _ _ (p .is) (c .live .ensures) _ _ (c .in-Break-check-new .ensures tt);
       bound = tt;
       height = tt;
       store = refl;
@@ -44,7 +45,7 @@ returns t c =
     let more = contents-pushed (c .args .scope .now) (c .push .last .self) _ room (c .push .ensures .words)
     (c .push .ensures .height) in
     record {
-      answer = local-new _ _ _ _ _ _ _ _ (p .is) (c .live .ensures) _ _ more _ _ (c .if-is-declared .ensures tt)
+      answer = local-new _ _ _ _ _ _ _ _ (p .is) (c .live .ensures) _ _ more _ _ (c .in-Continue-check-new .ensures tt)
           (omega arith) (c .locals .ensures .answer);
       bound = one-more (reverse (c .args .globals .now)) _ _ _ _ _ _ _ (p .is) (c .live .ensures) _
           (c .locals .result) more _ (c .locals .ensures .bound);

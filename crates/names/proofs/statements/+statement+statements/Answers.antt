@@ -127,8 +127,8 @@ statement-returns-in-Continue-next t c =
     let long : length scope ≡ c .height-mark .result = length-contents (c .args .scope .now) (omega arith)
     ∙ sym mark in
     let low : c .height-mark .result ≤ c .statements .last .scope .height = omega (arith, h₁, h₂) in
-    let cut = contents-cut (c .statements .last .scope) (c .cut .last .self) (c .height-mark .result) low
-    (c .cut .ensures .words) (c .cut .ensures .height) in
+    let cut = contents-cut (c .statements .last .scope) (c .leave-block .last .scope) (c .height-mark .result) low
+    (c .leave-block .ensures .words) (c .leave-block .ensures .height) in
     record {
       answer = rw (p .is) (on (localRules globals ds (reverse scope))
           (blockRules globals functions ss (bindNames ds (reverse scope))) end _ _ (w .0)
@@ -137,8 +137,8 @@ statement-returns-in-Continue-next t c =
           (c .in-Continue-next .ensures tt .answer)));
       kept = dropped scope _ _ _ _ _ long (c .in-Continue-first .ensures tt .bound)
           (c .in-Continue-next .ensures tt .kept) cut;
-      height = c .cut .ensures .height ∙ mark;
-      store = ap length (c .cut .ensures .words)
+      height = c .leave-block .ensures .height ∙ mark;
+      store = ap length (c .leave-block .ensures .words)
           ∙ (c .in-Continue-next .ensures tt .store ∙ c .in-Continue-first .ensures tt .store);
     }
 

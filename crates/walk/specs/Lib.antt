@@ -1,0 +1,4 @@
+pub mod Newest
+pub mod Lent
+pub mod Ready
+pub mod Walked
