@@ -86,10 +86,10 @@ module _ (table : List Record) (at : ℕ) (p : Part table at ExpressionSort) whe
       }
 
   bounded : (row : Row) (r : Record) (q : Row) → row .v ≡ UpTo 15 →
-      cond (suits ExpressionSort (row .is)) (cond (fields row r) (Ok row) (Err (FieldOutOfBounds at))) (Err (UnexpectedKind at)) ≡ Ok q →
+      cond (suits ExpressionSort (row .sort)) (cond (fields row r) (Ok row) (Err (FieldOutOfBounds at))) (Err (UnexpectedKind at)) ≡ Ok q →
       natural (r .v) ≤ 15
   bounded row r q e h = few (r .v) (held (within (row .a) (pos (r .a))) (within (row .v) (r .v))
-      (suits ExpressionSort (row .is)) h)
+      (suits ExpressionSort (row .sort)) h)
     where
       held : (a b s : Bool) → cond s (cond (a && b) (Ok row) (Err (FieldOutOfBounds at))) (Err (UnexpectedKind at)) ≡ Ok q → T b
       held true true true z = tt
