@@ -285,11 +285,9 @@ mod tests {
 
     #[test]
     fn records_are_read(rt: LibcRuntime) -> Result<(), Fail> {
-        let table = match read_job(
-            rt.alloc(),
-            "# none yet\n 1 0 -7 2 # a variable\n\n\t255 0\n",
-        ) {
-            Ok(table) => table,
+        let text = "# none yet\n 1 0 -7 fuel\n9 2 # a variable\n\n\t255 0\n";
+        let job = match read_job(rt.alloc(), text) {
+            Ok(job) => job,
             Err(_) => return Err(Fail::new("refused")),
         };
         check_eq(job.settings.fuel, 9)?;

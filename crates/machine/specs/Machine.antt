@@ -225,8 +225,7 @@ run I (suc n) m = proceed (step I m) (run I n)
 
 -- ---- where a run begins, and the code's machine as a state
 
--- The state just after arming: the literals of the globals' numbers lie in the first words; the others are as they
--- were.
+-- The state just after arming: the literals of the globals' numbers lie in the first words, the others are as they were.
 abbrev pub armed : {W : Type 0} → Image W → List ℤ → List W → List W → ℕ → MachineState W
 armed I numbers words bays fuel = record {
   store = map (λ v. I .kind .literal v) numbers ++ drop (length numbers) words;

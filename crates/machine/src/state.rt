@@ -1,5 +1,6 @@
-// What the machine keeps besides the word store and the bays, and how its runs end.
-use script::ending::Ending;
+// What the machine keeps besides the word store and the bays.
+ghost use Prim.Native.Nat.{_≤_};
+use script::Ending;
 
 // What a return needs: the instruction to go on with, and where the caller's frame starts.
 #[derive(Clone, Copy)]
@@ -29,6 +30,9 @@ pub struct Machine {
     pub depth: usize,
     pub calls: usize,
     pub frames: Frames,
+    // there is a record for every call that the depth lets in
+    ghost shallow: { depth ≤ 63 },
+    ghost recorded: { calls ≤ 63 },
 }
 
 // How a run has ended, and at which record.
