@@ -1,6 +1,7 @@
 // The tree run as code: it walks the records of an accepted table.
 mod bays;
 mod bind;
+pub mod cases;
 pub mod entry;
 mod functions;
 mod globals;
