@@ -1,0 +1,3 @@
+// The translator: a table of accepted shape and names becomes stack code, in memory reserved beforehand.
+mod emit;
+mod expressions;
