@@ -1,3 +1,4 @@
 // The translator: a table of accepted shape and names becomes stack code, in memory reserved beforehand.
 mod emit;
 mod expressions;
+mod statements;
