@@ -1,3 +1,4 @@
 pub mod Lists
 pub mod Parts
 pub mod Codes
+pub mod Programs

@@ -1,6 +1,7 @@
 -- What a single record contributes to the code.
 use mathlib.Core.List.{List}
 use Prim.Native.Nat.{ℕ}
+use lib.ListN.{length}
 use Rattle.script.specs.declared.record.Record.{Record}
 use Rattle.script.specs.declared.rows.NodeKind.{NodeKind}
 use Rattle.script.specs.declared.rows.NodeKind.the-variants as is
@@ -32,3 +33,7 @@ recordOperation globals functions own is.Function r = operation.Pop
 recordOperation globals functions own is.Parameter r = operation.Pop
 recordOperation globals functions own is.Program r = operation.Pop
 recordOperation globals functions own is.Unknown r = operation.Pop
+
+-- The entry of a function whose code begins at an instruction.
+abbrev pub entryOf : ℕ → Function → FunctionEntry
+entryOf start f = record { start = start; parameters = length (f .parameters) }

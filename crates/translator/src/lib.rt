@@ -1,4 +1,5 @@
 // The translator: a table of accepted shape and names becomes stack code, in memory reserved beforehand.
 mod emit;
 mod expressions;
+mod functions;
 mod statements;
