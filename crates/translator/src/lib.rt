@@ -3,3 +3,6 @@ mod emit;
 mod expressions;
 mod functions;
 mod statements;
+pub mod translation;
+
+pub use translation::Translation;
