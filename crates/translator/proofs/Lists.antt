@@ -1,11 +1,13 @@
 -- Lists put down piece by piece, and the search among functions.
 use mathlib.Core.Path.{_≡_, refl, sym, _∙_, ap}
 use mathlib.Core.List.{List, [], _∷_, _++_, append-assoc}
-use Prim.Native.Nat.{ℕ, zero, suc, _+_, _-_, _<_, _≤_}
+use Prim.Native.Nat.{ℕ, zero, suc, _+_, _-_, _<_}
 use native.Mathlib.Numerals.{add-one}
 use native.Mathlib.Omega.{arith}
-use lib.ListN.{length, length-append, replicate, getD, drop}
+use lib.ListN.{length, replicate, getD, drop}
 use borrow.Author.Tests.{eq-eqb, ne-eqb}
+use Rattle.std.specs.declared.vec.Vec.{Vec}
+use Rattle.std.specs.Of.Vec.{vec-items, vec-len}
 use Rattle.std.proofs.shelf.Lists.{drop-more}
 use Rattle.names.specs.declared.signature.Signature.{Signature}
 use Rattle.code.specs.Scheme.{functionIndex}
@@ -23,9 +25,14 @@ module _ {A : Type 0} where
       let e : suc n - 1 ≡ n = omega arith in
       q ∙ rw (p, e) (append-assoc x (i ∷ []) (replicate n i))
 
-  -- A list that was added to is no shorter.
-  pub grown : (x y z : List A) (m n : ℕ) → length x ≡ m → length z ≡ n → z ≡ x ++ y → m ≤ n
-  grown x y z m n p q e = omega (arith, ap length e, length-append x y)
+  -- What comes next depends on names that are known by another equation.
+  pub under : (before after : List A) (piece : List ℕ → List A) (l m : List ℕ) → after ≡ before ++ piece l → l ≡ m →
+      after ≡ before ++ piece m
+  under before after piece l m p e = p ∙ ap (λ (z : List ℕ). before ++ piece z) e
+
+  -- A vector has as many items as its length says.
+  pub long : {Z : Type 0} (v : Vec A Z) → length (vec-items v) ≡ vec-len v
+  long v = omega (arith, v .ok .0)
 
 -- The search among the functions from the i-th on.
 module _ (functions : List Signature) (x i : ℕ) (d : Signature) (h : i < length functions) where

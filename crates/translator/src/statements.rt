@@ -73,6 +73,7 @@ pub fn statement(
         ≡ vec-items (now (code .entry))
         ++ statementCode (reverse (now (globals .entry))) (now (functions .entry)) leave
         (statementAt (now (table .entry)) at) (reverse (contents (now (scope .entry)))) (vec-len (now (code .entry))) ⌝ }
+    ensures longer { λ _. ⌜ vec-len (now (code .entry)) ≤ vec-len (now (code .exit)) ⌝ }
     ensures bound { λ _. ⌜ vec-len (now (code .exit)) + 1
         ≤ vec-len (now (code .entry)) + 4 * size (treeAt (now (table .entry)) at) ⌝ }
     ensures capacity { λ _. ⌜ vec-cap (now (code .exit)) ≡ vec-cap (now (code .entry)) ⌝ }
@@ -113,6 +114,7 @@ fn if_statement(
         ≡ vec-items (now (code .entry))
         ++ statementCode (reverse (now (globals .entry))) (now (functions .entry)) leave
         (statementAt (now (table .entry)) at) (reverse (contents (now (scope .entry)))) (vec-len (now (code .entry))) ⌝ }
+    ensures longer { λ _. ⌜ vec-len (now (code .entry)) ≤ vec-len (now (code .exit)) ⌝ }
     ensures bound { λ _. ⌜ vec-len (now (code .exit)) + 1
         ≤ vec-len (now (code .entry)) + 4 * size (treeAt (now (table .entry)) at) ⌝ }
     ensures capacity { λ _. ⌜ vec-cap (now (code .exit)) ≡ vec-cap (now (code .entry)) ⌝ }
@@ -153,6 +155,7 @@ fn while_statement(
         ≡ vec-items (now (code .entry))
         ++ statementCode (reverse (now (globals .entry))) (now (functions .entry)) leave
         (statementAt (now (table .entry)) at) (reverse (contents (now (scope .entry)))) (vec-len (now (code .entry))) ⌝ }
+    ensures longer { λ _. ⌜ vec-len (now (code .entry)) ≤ vec-len (now (code .exit)) ⌝ }
     ensures bound { λ _. ⌜ vec-len (now (code .exit)) + 1
         ≤ vec-len (now (code .entry)) + 4 * size (treeAt (now (table .entry)) at) ⌝ }
     ensures capacity { λ _. ⌜ vec-cap (now (code .exit)) ≡ vec-cap (now (code .entry)) ⌝ }
@@ -193,6 +196,7 @@ fn block(
         ≡ vec-items (now (code .entry))
         ++ statementCode (reverse (now (globals .entry))) (now (functions .entry)) leave
         (statementAt (now (table .entry)) at) (reverse (contents (now (scope .entry)))) (vec-len (now (code .entry))) ⌝ }
+    ensures longer { λ _. ⌜ vec-len (now (code .entry)) ≤ vec-len (now (code .exit)) ⌝ }
     ensures bound { λ _. ⌜ vec-len (now (code .exit)) + 1
         ≤ vec-len (now (code .entry)) + 4 * size (treeAt (now (table .entry)) at) ⌝ }
     ensures capacity { λ _. ⌜ vec-cap (now (code .exit)) ≡ vec-cap (now (code .entry)) ⌝ }
@@ -244,6 +248,7 @@ fn statements(
         ++ blockCode (reverse (now (globals .entry))) (now (functions .entry)) leave
         (statementsAt (now (table .entry)) at count) (reverse (contents (now (scope .entry)))) place
         (vec-len (now (code .entry))) ⌝ }
+    ensures longer { λ _. ⌜ vec-len (now (code .entry)) ≤ vec-len (now (code .exit)) ⌝ }
     ensures bound { λ _. ⌜ vec-len (now (code .exit))
         ≤ vec-len (now (code .entry)) + 4 * sizes (pieces (now (table .entry)) at count) ⌝ }
     ensures capacity { λ _. ⌜ vec-cap (now (code .exit)) ≡ vec-cap (now (code .entry)) ⌝ }

@@ -16,6 +16,7 @@ use Rattle.syntax.specs.Typed.{declarationsAt, functionOf, firstParts}
 use Rattle.syntax.proofs.Expressions.{firsts}
 use Rattle.syntax.proofs.Declarations.{functional, first-function, first-variable}
 use Rattle.names.specs.declared.signature.Signature.{Signature}
+use Rattle.translator.proofs.Lists.{long}
 use Rattle.translator.proofs.Programs.{functions-code, functions-entries, first-number}
 use Rattle.translator.proofs.functions.+declarations.Needs as need
 
@@ -80,10 +81,6 @@ returns-in-Function t c =
     let f = functional table at n m noRecord (q .within) (q .first) (sym (c .in-Function .ensures tt)) refl refl in
     let p = first-function table at (c .args .count) n m (c .function-next .result) noRecord k (c .pre .sound)
     (sym (c .in-Function .ensures tt)) refl refl (omega (arith, f .whole)) in
-    let l₀ : length (vec-items (c .args .code .now)) ≡ vec-len (c .args .code .now) =
-    omega (arith, c .args .code .now .ok .0) in
-    let l₁ : length (vec-items (c .function-next .last .code)) ≡ vec-len (c .function-next .last .code) =
-    omega (arith, c .function-next .last .code .ok .0) in
     let ds : List Declaration = declarationsAt table at (c .args .count) in
     let es : List Declaration = declarationsAt table (c .function-next .result) (c .args .count - 1) in
     let g : Function = functionOf (treeAt table at) in
@@ -94,10 +91,12 @@ returns-in-Function t c =
     let start : ℕ = vec-len (c .args .code .now) in
     let rest : ℕ = vec-len (c .function-next .last .code) in
     record {
-      items = functions-code globals functions ds es g first before one start rest l₀ l₁
+      items = functions-code globals functions ds es g first before one start rest
+          (long (c .args .code .now)) (long (c .function-next .last .code))
           (c .function-next .ensures .items) _ (c .declarations .ensures .items);
       bound = omega (arith, p .whole);
-      entry = functions-entries globals functions ds es g first before one start rest l₀ l₁
+      entry = functions-entries globals functions ds es g first before one start rest
+          (long (c .args .code .now)) (long (c .function-next .last .code))
           (c .function-next .ensures .items) _ _ _ (c .function-next .ensures .entry) (c .declarations .ensures .entry);
       number = rw first (c .declarations .ensures .number);
       capacity = (

@@ -12,6 +12,7 @@ use Rattle.syntax.specs.Trees.{noRecord}
 use Rattle.syntax.specs.Typed.{statementAt, declarationsAt, programOf}
 use Rattle.syntax.proofs.Declarations.{programmed}
 use Rattle.syntax.proofs.Shaped.{few-declarations}
+use Rattle.translator.proofs.Lists.{long}
 use Rattle.translator.proofs.Programs.{program-code, program-entries, program-numbers}
 use Rattle.translator.proofs.functions.program.Needs as need
 
@@ -55,8 +56,6 @@ returns c =
     let table : List Record = c .args .table .now in
     let k : ℕ = getD table 0 noRecord .a in
     let p = programmed table k (c .args .main) noRecord (c .pre .within .0) (c .pre .sound) refl (c .pre .after) in
-    let long : length (vec-items (c .append .last .code)) ≡ vec-len (c .append .last .code) =
-    omega (arith, c .append .last .code .ok .0) in
     let ds : List Declaration = declarationsAt table 1 k in
     let empty : contents (c .new-scope .result) ≡ [] =
     ap (λ (h : ℕ). take h (now (c .new-scope .result .words))) (c .new-scope .ensures .height) in
@@ -64,18 +63,18 @@ returns c =
       items = program-code (programOf table) ds (statementAt table (c .args .main)) (p .is) (c .args .globals .now)
           (c .args .functions .now) (c .pre .variables) (c .pre .signatures) (contents (c .new-scope .result)) empty
           (vec-items (c .clear .last .self)) _ _ (vec-len (c .clear .last .self)) (vec-len (c .append .last .code))
-          (c .clear .ensures .items) (c .clear .ensures .len) long (c .statement .ensures .items)
+          (c .clear .ensures .items) (c .clear .ensures .len) (long (c .append .last .code)) (c .statement .ensures .items)
           (c .append .ensures .items) _ (c .declarations .ensures .items);
       entry = program-entries (programOf table) ds (statementAt table (c .args .main)) (p .is) (c .args .globals .now)
           (c .args .functions .now) (c .pre .variables) (c .pre .signatures) (contents (c .new-scope .result)) empty
           (vec-items (c .clear .last .self)) _ _ (vec-len (c .clear .last .self)) (vec-len (c .append .last .code))
-          (c .clear .ensures .items) (c .clear .ensures .len) long (c .statement .ensures .items)
+          (c .clear .ensures .items) (c .clear .ensures .len) (long (c .append .last .code)) (c .statement .ensures .items)
           (c .append .ensures .items) (vec-items (c .clear-2 .last .self)) _ (c .clear-2 .ensures .items)
           (c .declarations .ensures .entry);
       number = program-numbers (programOf table) ds (statementAt table (c .args .main)) (p .is) (c .args .globals .now)
           (c .args .functions .now) (c .pre .variables) (c .pre .signatures) (contents (c .new-scope .result)) empty
           (vec-items (c .clear .last .self)) _ _ (vec-len (c .clear .last .self)) (vec-len (c .append .last .code))
-          (c .clear .ensures .items) (c .clear .ensures .len) long (c .statement .ensures .items)
+          (c .clear .ensures .items) (c .clear .ensures .len) (long (c .append .last .code)) (c .statement .ensures .items)
           (c .append .ensures .items) (vec-items (c .clear-3 .last .self)) _ (c .clear-3 .ensures .items)
           (c .declarations .ensures .number);
       short = omega (arith, p .ends, c .pre .after, c .declarations .ensures .bound, c .statement .ensures .bound);

@@ -19,7 +19,7 @@ use Rattle.code.specs.declared.instruction.Operation.{Operation}
 use Rattle.code.specs.declared.instruction.Operation.the-variants.{Jz, Jmp, Pop}
 use Rattle.code.specs.declared.instruction.Instruction.{Instruction}
 use Rattle.code.specs.Scheme.{op, expressionCode, statementCode, blockCode}
-use Rattle.translator.proofs.Lists.{joined, grown}
+use Rattle.translator.proofs.Lists.{joined, under, long}
 use Rattle.translator.proofs.Codes.{if-code, while-code, then-code, block-code}
 use Rattle.translator.proofs.statements.+block+if_statement+statement+statements+while_statement.Needs as need
 
@@ -34,53 +34,33 @@ pub if-statement-append-requires : need.if-statement-append-requires
 if-statement-append-requires t c κs =
     let table : List Record = c .args .table .now in
     let at : ℕ = c .args .at in
-    let p = chosen table at (c .expression-first .result) _ (c .pre .within) (c .pre .sound) (c .pre .kind) (c .expression-first .ensures .next) refl in
+    let p = chosen table at (c .expression-first .result) _ (c .pre .within) (c .pre .sound) (c .pre .kind)
+    (c .expression-first .ensures .next) refl in
     omega (arith, p .whole)
 
 pub if-statement-statement-second-requires : need.if-statement-statement-second-requires
 if-statement-statement-second-requires t c κs =
     let table : List Record = c .args .table .now in
     let at : ℕ = c .args .at in
-    let p = chosen table at (c .expression-first .result) _ (c .pre .within) (c .pre .sound) (c .pre .kind) (c .expression-first .ensures .next) refl in
+    let p = chosen table at (c .expression-first .result) _ (c .pre .within) (c .pre .sound) (c .pre .kind)
+    (c .expression-first .ensures .next) refl in
     (omega (arith, p .first-within), (p .first-within, (p .first, (omega arith, omega (arith, p .whole)))))
 
 pub if-statement-append-requires-2 : need.if-statement-append-requires-2
 if-statement-append-requires-2 t c κs =
     let table : List Record = c .args .table .now in
     let at : ℕ = c .args .at in
-    let p = chosen table at (c .expression-first .result) (c .statement-second .result) (c .pre .within) (c .pre .sound) (c .pre .kind) (c .expression-first .ensures .next) (c .statement-second .ensures .next) in
+    let p = chosen table at (c .expression-first .result) (c .statement-second .result) (c .pre .within) (c .pre .sound)
+    (c .pre .kind) (c .expression-first .ensures .next) (c .statement-second .ensures .next) in
     omega (arith, p .whole)
 
 pub if-statement-statement-next-requires : need.if-statement-statement-next-requires
 if-statement-statement-next-requires t c κs =
     let table : List Record = c .args .table .now in
     let at : ℕ = c .args .at in
-    let p = chosen table at (c .expression-first .result) (c .statement-second .result) (c .pre .within) (c .pre .sound) (c .pre .kind) (c .expression-first .ensures .next) (c .statement-second .ensures .next) in
+    let p = chosen table at (c .expression-first .result) (c .statement-second .result) (c .pre .within) (c .pre .sound)
+    (c .pre .kind) (c .expression-first .ensures .next) (c .statement-second .ensures .next) in
     (omega (arith, p .second-within), (p .second-within, (p .second, (omega arith, omega (arith, p .whole)))))
-
-pub if-statement-patch-requires : need.if-statement-patch-requires
-if-statement-patch-requires t c κs =
-    let table : List Record = c .args .table .now in
-    let at : ℕ = c .args .at in
-    let l2 : length (vec-items (c .append .last .code)) ≡ vec-len (c .append .last .code) = omega (arith, c .append .last .code .ok .0) in
-    let l3 : length (vec-items (c .statement-second .last .code)) ≡ vec-len (c .statement-second .last .code) = omega (arith, c .statement-second .last .code .ok .0) in
-    let l4 : length (vec-items (c .append-2 .last .code)) ≡ vec-len (c .append-2 .last .code) = omega (arith, c .append-2 .last .code .ok .0) in
-    let l5 : length (vec-items (c .statement-next .last .code)) ≡ vec-len (c .statement-next .last .code) = omega (arith, c .statement-next .last .code .ok .0) in
-    let g₁ = grown (vec-items (c .append .last .code)) _ (vec-items (c .statement-second .last .code)) _ _ l2 l3 (c .statement-second .ensures .items) in
-    let g₂ = grown (vec-items (c .append-2 .last .code)) _ (vec-items (c .statement-next .last .code)) _ _ l4 l5 (c .statement-next .ensures .items) in
-    omega (arith, g₁, g₂)
-
-pub if-statement-patch-requires-2 : need.if-statement-patch-requires-2
-if-statement-patch-requires-2 t c κs =
-    let table : List Record = c .args .table .now in
-    let at : ℕ = c .args .at in
-    let l2 : length (vec-items (c .append .last .code)) ≡ vec-len (c .append .last .code) = omega (arith, c .append .last .code .ok .0) in
-    let l3 : length (vec-items (c .statement-second .last .code)) ≡ vec-len (c .statement-second .last .code) = omega (arith, c .statement-second .last .code .ok .0) in
-    let l4 : length (vec-items (c .append-2 .last .code)) ≡ vec-len (c .append-2 .last .code) = omega (arith, c .append-2 .last .code .ok .0) in
-    let l5 : length (vec-items (c .statement-next .last .code)) ≡ vec-len (c .statement-next .last .code) = omega (arith, c .statement-next .last .code .ok .0) in
-    let g₁ = grown (vec-items (c .append .last .code)) _ (vec-items (c .statement-second .last .code)) _ _ l2 l3 (c .statement-second .ensures .items) in
-    let g₂ = grown (vec-items (c .append-2 .last .code)) _ (vec-items (c .statement-next .last .code)) _ _ l4 l5 (c .statement-next .ensures .items) in
-    omega (arith, g₁, g₂)
 
 pub if-statement-returns : need.if-statement-returns
 if-statement-returns t c =
@@ -91,23 +71,27 @@ if-statement-returns t c =
     let leave : Operation = c .args .leave in
     let scope : List ℕ = contents (c .args .scope .now) in
     let before : List Instruction = vec-items (c .args .code .now) in
-    let p = chosen table at (c .expression-first .result) (c .statement-second .result) (c .pre .within) (c .pre .sound) (c .pre .kind) (c .expression-first .ensures .next) (c .statement-second .ensures .next) in
-    let l0 : length (vec-items (c .args .code .now)) ≡ vec-len (c .args .code .now) = omega (arith, c .args .code .now .ok .0) in
-    let l1 : length (vec-items (c .expression-first .last .code)) ≡ vec-len (c .expression-first .last .code) = omega (arith, c .expression-first .last .code .ok .0) in
-    let l2 : length (vec-items (c .append .last .code)) ≡ vec-len (c .append .last .code) = omega (arith, c .append .last .code .ok .0) in
-    let l3 : length (vec-items (c .statement-second .last .code)) ≡ vec-len (c .statement-second .last .code) = omega (arith, c .statement-second .last .code .ok .0) in
-    let l4 : length (vec-items (c .append-2 .last .code)) ≡ vec-len (c .append-2 .last .code) = omega (arith, c .append-2 .last .code .ok .0) in
-    let l5 : length (vec-items (c .statement-next .last .code)) ≡ vec-len (c .statement-next .last .code) = omega (arith, c .statement-next .last .code .ok .0) in
-    let i₁ : vec-items (c .expression-first .last .code) ≡ before ++ expressionCode globals functions (expressionAt table (at + 1)) (reverse scope) =
-    c .expression-first .ensures .items ∙ ap (λ (l : List ℕ). before ++ expressionCode globals functions (expressionAt table (at + 1)) (reverse l)) (c .live .ensures) in
-    let i₅ : vec-items (c .statement-next .last .code) ≡ vec-items (c .append-2 .last .code) ++ statementCode globals functions leave (statementAt table (c .statement-second .result)) (reverse scope) (vec-len (c .append-2 .last .code)) =
-    c .statement-next .ensures .items ∙ ap (λ (l : List ℕ). vec-items (c .append-2 .last .code) ++ statementCode globals functions leave (statementAt table (c .statement-second .result)) (reverse l) (vec-len (c .append-2 .last .code))) (c .statement-second .ensures .kept) in
-    let i₆ : vec-items (c .patch .last .code) ≡ set (vec-items (c .statement-next .last .code)) (c .len-test .result) (op at (Jz (vec-len (c .append-2 .last .code)))) =
-    c .patch .ensures .items ∙ ap (λ (z : ℕ). set (vec-items (c .statement-next .last .code)) (c .len-test .result) (op at (Jz z))) (c .len-other .ensures) in
+    let p = chosen table at (c .expression-first .result) (c .statement-second .result) (c .pre .within) (c .pre .sound)
+    (c .pre .kind) (c .expression-first .ensures .next) (c .statement-second .ensures .next) in
+    let tested = under _ _ (λ l. expressionCode globals functions (expressionAt table (at + 1)) (reverse l)) _ _
+    (c .expression-first .ensures .items) (c .live .ensures) in
+    let second = under _ _
+    (λ l. statementCode globals functions leave (statementAt table (c .statement-second .result)) (reverse l)
+    (vec-len (c .append-2 .last .code))) _ _ (c .statement-next .ensures .items) (c .statement-second .ensures .kept) in
+    let once = c .patch .ensures .items
+    ∙ ap (λ (z : ℕ). set (vec-items (c .statement-next .last .code)) (c .len-test .result) (op at (Jz z)))
+    (c .len-other .ensures) in
     record {
-      items = rw (p .is) (if-code globals functions leave (reverse scope) at (expressionAt table (at + 1)) (statementAt table (c .expression-first .result)) (statementAt table (c .statement-second .result)) before _ _ _ _ _ _ _ (vec-len (c .args .code .now)) (c .len-test .result) (vec-len (c .append .last .code)) (c .len-skip .result) (vec-len (c .append-2 .last .code)) (c .len-end .result) _ _
-          l0 (l1 ∙ sym (c .len-test .ensures)) l2 (l3 ∙ sym (c .len-skip .ensures)) l4 (l5 ∙ sym (c .len-end .ensures))
-          i₁ (c .append .ensures .items) (c .statement-second .ensures .items) (c .append-2 .ensures .items) i₅ i₆ (c .patch-2 .ensures .items));
+      items = rw (p .is) (if-code globals functions leave (reverse scope) at (expressionAt table (at + 1))
+          (statementAt table (c .expression-first .result)) (statementAt table (c .statement-second .result)) before
+          _ _ _ _ _ _ _ (vec-len (c .args .code .now)) (c .len-test .result) (vec-len (c .append .last .code))
+          (c .len-skip .result) (vec-len (c .append-2 .last .code)) (c .len-end .result) _ _
+          (long (c .args .code .now)) (long (c .expression-first .last .code) ∙ sym (c .len-test .ensures))
+          (long (c .append .last .code)) (long (c .statement-second .last .code) ∙ sym (c .len-skip .ensures))
+          (long (c .append-2 .last .code)) (long (c .statement-next .last .code) ∙ sym (c .len-end .ensures))
+          tested (c .append .ensures .items) (c .statement-second .ensures .items) (c .append-2 .ensures .items)
+          second once (c .patch-2 .ensures .items));
+      longer = omega arith;
       bound = omega (arith, p .whole);
       capacity = omega arith;
       kept = c .statement-next .ensures .kept ∙ c .statement-second .ensures .kept;
@@ -134,45 +118,41 @@ pub while-statement-append-requires-2 : need.while-statement-append-requires-2
 while-statement-append-requires-2 t c κs =
     let table : List Record = c .args .table .now in
     let at : ℕ = c .args .at in
-    let p = looped table at (c .expression-body .result) (c .pre .within) (c .pre .sound) (c .pre .kind) (c .expression-body .ensures .next) in
+    let p = looped table at (c .expression-body .result) (c .pre .within) (c .pre .sound) (c .pre .kind)
+    (c .expression-body .ensures .next) in
     omega (arith, p .whole, p .some)
 
 pub while-statement-statement-next-requires : need.while-statement-statement-next-requires
 while-statement-statement-next-requires t c κs =
     let table : List Record = c .args .table .now in
     let at : ℕ = c .args .at in
-    let p = looped table at (c .expression-body .result) (c .pre .within) (c .pre .sound) (c .pre .kind) (c .expression-body .ensures .next) in
+    let p = looped table at (c .expression-body .result) (c .pre .within) (c .pre .sound) (c .pre .kind)
+    (c .expression-body .ensures .next) in
     (omega (arith, p .body-within), (p .body-within, (p .body, (omega arith, omega (arith, p .whole, p .some)))))
 
 pub while-statement-append-requires-3 : need.while-statement-append-requires-3
 while-statement-append-requires-3 t c κs =
     let table : List Record = c .args .table .now in
     let at : ℕ = c .args .at in
-    let p = looped table at (c .expression-body .result) (c .pre .within) (c .pre .sound) (c .pre .kind) (c .expression-body .ensures .next) in
+    let p = looped table at (c .expression-body .result) (c .pre .within) (c .pre .sound) (c .pre .kind)
+    (c .expression-body .ensures .next) in
     omega (arith, p .whole, p .some)
 
 pub while-statement-append-requires-4 : need.while-statement-append-requires-4
 while-statement-append-requires-4 t c κs =
     let table : List Record = c .args .table .now in
     let at : ℕ = c .args .at in
-    let p = looped table at (c .expression-body .result) (c .pre .within) (c .pre .sound) (c .pre .kind) (c .expression-body .ensures .next) in
+    let p = looped table at (c .expression-body .result) (c .pre .within) (c .pre .sound) (c .pre .kind)
+    (c .expression-body .ensures .next) in
     omega (arith, p .whole, p .some)
 
 pub while-statement-append-requires-5 : need.while-statement-append-requires-5
 while-statement-append-requires-5 t c κs =
     let table : List Record = c .args .table .now in
     let at : ℕ = c .args .at in
-    let p = looped table at (c .expression-body .result) (c .pre .within) (c .pre .sound) (c .pre .kind) (c .expression-body .ensures .next) in
+    let p = looped table at (c .expression-body .result) (c .pre .within) (c .pre .sound) (c .pre .kind)
+    (c .expression-body .ensures .next) in
     omega (arith, p .whole, p .some)
-
-pub while-statement-patch-requires : need.while-statement-patch-requires
-while-statement-patch-requires t c κs =
-    let table : List Record = c .args .table .now in
-    let at : ℕ = c .args .at in
-    let l3 : length (vec-items (c .append-2 .last .code)) ≡ vec-len (c .append-2 .last .code) = omega (arith, c .append-2 .last .code .ok .0) in
-    let l4 : length (vec-items (c .statement-next .last .code)) ≡ vec-len (c .statement-next .last .code) = omega (arith, c .statement-next .last .code .ok .0) in
-    let g₁ = grown (vec-items (c .append-2 .last .code)) _ (vec-items (c .statement-next .last .code)) _ _ l3 l4 (c .statement-next .ensures .items) in
-    omega (arith, g₁)
 
 pub while-statement-returns : need.while-statement-returns
 while-statement-returns t c =
@@ -183,19 +163,21 @@ while-statement-returns t c =
     let leave : Operation = c .args .leave in
     let scope : List ℕ = contents (c .args .scope .now) in
     let before : List Instruction = vec-items (c .args .code .now) in
-    let p = looped table at (c .expression-body .result) (c .pre .within) (c .pre .sound) (c .pre .kind) (c .expression-body .ensures .next) in
-    let l0 : length (vec-items (c .args .code .now)) ≡ vec-len (c .args .code .now) = omega (arith, c .args .code .now .ok .0) in
-    let l2 : length (vec-items (c .expression-body .last .code)) ≡ vec-len (c .expression-body .last .code) = omega (arith, c .expression-body .last .code .ok .0) in
-    let l3 : length (vec-items (c .append-2 .last .code)) ≡ vec-len (c .append-2 .last .code) = omega (arith, c .append-2 .last .code .ok .0) in
-    let l6 : length (vec-items (c .append-4 .last .code)) ≡ vec-len (c .append-4 .last .code) = omega (arith, c .append-4 .last .code .ok .0) in
-    let i₂ : vec-items (c .expression-body .last .code) ≡ vec-items (c .append .last .code) ++ expressionCode globals functions (expressionAt table (at + 1)) (reverse scope) =
-    c .expression-body .ensures .items ∙ ap (λ (l : List ℕ). vec-items (c .append .last .code) ++ expressionCode globals functions (expressionAt table (at + 1)) (reverse l)) (c .live .ensures) in
-    let i₆ : vec-items (c .append-4 .last .code) ≡ vec-items (c .append-3 .last .code) ++ op at (Jmp (vec-len (c .args .code .now))) ∷ [] =
-    c .append-4 .ensures .items ∙ ap (λ (z : ℕ). vec-items (c .append-3 .last .code) ++ op at (Jmp z) ∷ []) (c .len-again .ensures) in
+    let p = looped table at (c .expression-body .result) (c .pre .within) (c .pre .sound) (c .pre .kind)
+    (c .expression-body .ensures .next) in
+    let tested = under _ _ (λ l. expressionCode globals functions (expressionAt table (at + 1)) (reverse l)) _ _
+    (c .expression-body .ensures .items) (c .live .ensures) in
+    let back = c .append-4 .ensures .items
+    ∙ ap (λ (z : ℕ). vec-items (c .append-3 .last .code) ++ op at (Jmp z) ∷ []) (c .len-again .ensures) in
     record {
-      items = rw (p .is) (while-code globals functions leave (reverse scope) at (expressionAt table (at + 1)) (statementAt table (c .expression-body .result)) before _ _ _ _ _ _ _ _ (vec-len (c .args .code .now)) (c .len-test .result) (vec-len (c .append-2 .last .code)) (c .len-end .result) _
-          l0 (l2 ∙ sym (c .len-test .ensures)) l3 (l6 ∙ sym (c .len-end .ensures))
-          (c .append .ensures .items) i₂ (c .append-2 .ensures .items) (c .statement-next .ensures .items) (c .append-3 .ensures .items) i₆ (c .patch .ensures .items) (c .append-5 .ensures .items));
+      items = rw (p .is) (while-code globals functions leave (reverse scope) at (expressionAt table (at + 1))
+          (statementAt table (c .expression-body .result)) before _ _ _ _ _ _ _ _ (vec-len (c .args .code .now))
+          (c .len-test .result) (vec-len (c .append-2 .last .code)) (c .len-end .result) _
+          (long (c .args .code .now)) (long (c .expression-body .last .code) ∙ sym (c .len-test .ensures))
+          (long (c .append-2 .last .code)) (long (c .append-4 .last .code) ∙ sym (c .len-end .ensures))
+          (c .append .ensures .items) tested (c .append-2 .ensures .items) (c .statement-next .ensures .items)
+          (c .append-3 .ensures .items) back (c .patch .ensures .items) (c .append-5 .ensures .items));
+      longer = omega arith;
       bound = omega (arith, p .whole, p .some);
       capacity = omega arith;
       kept = c .statement-next .ensures .kept;
@@ -217,7 +199,8 @@ block-statements-next-requires t c κs =
     let table : List Record = c .args .table .now in
     let at : ℕ = c .args .at in
     let k : ℕ = getD table at noRecord .a in
-    let p = blocked table at k (c .statement-count .result) (at + 1 + k) noRecord (c .pre .within) (c .pre .sound) (c .pre .kind) refl (c .statement-count .ensures) refl in
+    let p = blocked table at k (c .statement-count .result) (at + 1 + k) noRecord (c .pre .within) (c .pre .sound)
+    (c .pre .kind) refl (c .statement-count .ensures) refl in
     (omega (arith, p .within), (p .within, (p .others, (omega arith, omega (arith, p .whole)))))
 
 pub block-append-pops-requires : need.block-append-pops-requires
@@ -225,7 +208,8 @@ block-append-pops-requires t c κs =
     let table : List Record = c .args .table .now in
     let at : ℕ = c .args .at in
     let k : ℕ = getD table at noRecord .a in
-    let p = blocked table at k (c .statement-count .result) (at + 1 + k) noRecord (c .pre .within) (c .pre .sound) (c .pre .kind) refl (c .statement-count .ensures) refl in
+    let p = blocked table at k (c .statement-count .result) (at + 1 + k) noRecord (c .pre .within) (c .pre .sound)
+    (c .pre .kind) refl (c .statement-count .ensures) refl in
     omega (arith, p .whole)
 
 pub block-append-requires : need.block-append-requires
@@ -233,7 +217,8 @@ block-append-requires t c κs =
     let table : List Record = c .args .table .now in
     let at : ℕ = c .args .at in
     let k : ℕ = getD table at noRecord .a in
-    let p = blocked table at k (c .statement-count .result) (at + 1 + k) noRecord (c .pre .within) (c .pre .sound) (c .pre .kind) refl (c .statement-count .ensures) refl in
+    let p = blocked table at k (c .statement-count .result) (at + 1 + k) noRecord (c .pre .within) (c .pre .sound)
+    (c .pre .kind) refl (c .statement-count .ensures) refl in
     omega (arith, p .whole)
 
 pub block-returns : need.block-returns
@@ -251,25 +236,22 @@ block-returns t c =
     let ds : List VariableDeclaration = variablesAt table (at + 1) k in
     let ss : Statements = statementsAt table (at + 1 + k) (c .statement-count .result) in
     let mark : c .height-mark .result ≡ c .args .scope .now .height = c .height-mark .ensures in
-    let long : length scope ≡ c .height-mark .result = length-contents (c .args .scope .now) (omega arith) ∙ sym mark in
+    let scope-long : length scope ≡ c .height-mark .result = length-contents (c .args .scope .now) (omega arith) ∙ sym mark in
     let low : c .height-mark .result ≤ c .statements-next .last .scope .height = omega arith in
     let cut = contents-cut (c .statements-next .last .scope) (c .cut .last .self) (c .height-mark .result) low
     (c .cut .ensures .words) (c .cut .ensures .height) in
     let b : reverse (contents (c .enter .last .scope)) ≡ bindNames ds (reverse scope) =
     ap reverse (c .enter .ensures .bound) ∙ bound ds scope in
-    let inside : vec-items (c .statements-next .last .code)
-    ≡ vec-items (c .enter .last .code)
-    ++ blockCode globals functions leave ss (bindNames ds (reverse scope)) at (vec-len (c .enter .last .code)) =
-    c .statements-next .ensures .items
-    ∙ ap (λ (l : List ℕ). vec-items (c .enter .last .code)
-    ++ blockCode globals functions leave ss l at (vec-len (c .enter .last .code))) b in
+    let inside = under _ _ (λ l. blockCode globals functions leave ss l at (vec-len (c .enter .last .code))) _ _
+    (c .statements-next .ensures .items) b in
     record {
       items = rw (p .is) (block-code globals functions leave (reverse scope) at ds ss before _ _ _ _
           (vec-len (c .args .code .now)) (vec-len (c .enter .last .code)) k (c .enter .ensures .len) (p .many)
           (c .enter .ensures .items) inside (c .append-pops .ensures .items) (c .append .ensures .items));
+      longer = omega arith;
       bound = omega (arith, p .whole);
       capacity = omega arith;
-      kept = dropped scope (map nameOf ds) _ _ _ _ long (c .enter .ensures .bound) (c .statements-next .ensures .kept) cut;
+      kept = dropped scope (map nameOf ds) _ _ _ _ scope-long (c .enter .ensures .bound) (c .statements-next .ensures .kept) cut;
       height = c .cut .ensures .height ∙ mark;
       store = ap length (c .cut .ensures .words) ∙ (c .statements-next .ensures .store ∙ c .enter .ensures .store);
       next = omega (arith, p .whole);
@@ -279,21 +261,24 @@ pub statement-expression-next-requires : need.statement-expression-next-requires
 statement-expression-next-requires t c κs =
     let table : List Record = c .args .table .now in
     let at : ℕ = c .args .at in
-    let p = (return-at table at (c .pre .within) (c .pre .sound) (sym (c .in-Return .ensures tt))) in
+    let p = return-at table at (c .pre .within) (c .pre .sound) (sym (c .in-Return .ensures tt)) in
     record { within = p .0 .test-within; sound = p .0 .test; room = omega (arith, p .0 .whole) }
 
 pub statement-append-requires : need.statement-append-requires
 statement-append-requires t c κs =
     let table : List Record = c .args .table .now in
     let at : ℕ = c .args .at in
-    let p = (return-at table at (c .pre .within) (c .pre .sound) (sym (c .in-Return .ensures tt))) in
+    let p = return-at table at (c .pre .within) (c .pre .sound) (sym (c .in-Return .ensures tt)) in
     omega (arith, p .0 .whole)
 
 pub statement-expression-requires : need.statement-expression-requires
 statement-expression-requires t c κs =
     let table : List Record = c .args .table .now in
     let at : ℕ = c .args .at in
-    let p = (simple-at table at (c .pre .within) (c .pre .sound) (simple-kind table at (c .pre .within) (c .pre .sound) (λ e. c .in-rest .not-Return (c .node-kind .ensures ∙ e)) (λ e. c .in-rest .not-If (c .node-kind .ensures ∙ e)) (λ e. c .in-rest .not-While (c .node-kind .ensures ∙ e)) (λ e. c .in-rest .not-Block (c .node-kind .ensures ∙ e)))) in
+    let p = simple-at table at (c .pre .within) (c .pre .sound)
+    (simple-kind table at (c .pre .within) (c .pre .sound)
+    (λ e. c .in-rest .not-Return (c .node-kind .ensures ∙ e)) (λ e. c .in-rest .not-If (c .node-kind .ensures ∙ e))
+    (λ e. c .in-rest .not-While (c .node-kind .ensures ∙ e)) (λ e. c .in-rest .not-Block (c .node-kind .ensures ∙ e))) in
     record { within = p .0 .test-within; sound = p .0 .test; room = omega (arith, p .0 .whole) }
 
 pub statement-returns-in-Return : need.statement-returns-in-Return
@@ -305,11 +290,14 @@ statement-returns-in-Return t c =
     let leave : Operation = c .args .leave in
     let scope : List ℕ = contents (c .args .scope .now) in
     let before : List Instruction = vec-items (c .args .code .now) in
-    let p = (return-at table at (c .pre .within) (c .pre .sound) (sym (c .in-Return .ensures tt))) in
-    let i₁ : vec-items (c .expression-next .last .code) ≡ before ++ expressionCode globals functions (expressionAt table (at + 1)) (reverse scope) =
-    c .expression-next .ensures .items ∙ ap (λ (l : List ℕ). before ++ expressionCode globals functions (expressionAt table (at + 1)) (reverse l)) (c .live .ensures) in
+    let p = return-at table at (c .pre .within) (c .pre .sound) (sym (c .in-Return .ensures tt)) in
+    let value = under _ _ (λ l. expressionCode globals functions (expressionAt table (at + 1)) (reverse l)) _ _
+    (c .expression-next .ensures .items) (c .live .ensures) in
     record {
-      items = rw (p .1) (joined before (expressionCode globals functions (expressionAt table (at + 1)) (reverse scope)) _ _ _ i₁ (c .append .ensures .items));
+      items = rw (p .1)
+          (joined before (expressionCode globals functions (expressionAt table (at + 1)) (reverse scope)) _ _ _
+          value (c .append .ensures .items));
+      longer = omega arith;
       bound = omega (arith, p .0 .whole);
       capacity = omega arith;
       kept = refl;
@@ -327,11 +315,15 @@ statement-returns-in-rest t c =
     let leave : Operation = c .args .leave in
     let scope : List ℕ = contents (c .args .scope .now) in
     let before : List Instruction = vec-items (c .args .code .now) in
-    let p = (simple-at table at (c .pre .within) (c .pre .sound) (simple-kind table at (c .pre .within) (c .pre .sound) (λ e. c .in-rest .not-Return (c .node-kind .ensures ∙ e)) (λ e. c .in-rest .not-If (c .node-kind .ensures ∙ e)) (λ e. c .in-rest .not-While (c .node-kind .ensures ∙ e)) (λ e. c .in-rest .not-Block (c .node-kind .ensures ∙ e)))) in
-    let i₁ : vec-items (c .expression .last .code) ≡ before ++ expressionCode globals functions (expressionAt table (at + 1)) (reverse scope) =
-    c .expression .ensures .items ∙ ap (λ (l : List ℕ). before ++ expressionCode globals functions (expressionAt table (at + 1)) (reverse l)) (c .live-in-rest .ensures) in
+    let p = simple-at table at (c .pre .within) (c .pre .sound)
+    (simple-kind table at (c .pre .within) (c .pre .sound)
+    (λ e. c .in-rest .not-Return (c .node-kind .ensures ∙ e)) (λ e. c .in-rest .not-If (c .node-kind .ensures ∙ e))
+    (λ e. c .in-rest .not-While (c .node-kind .ensures ∙ e)) (λ e. c .in-rest .not-Block (c .node-kind .ensures ∙ e))) in
+    let value = under _ _ (λ l. expressionCode globals functions (expressionAt table (at + 1)) (reverse l)) _ _
+    (c .expression .ensures .items) (c .live-in-rest .ensures) in
     record {
-      items = rw (p .1) i₁;
+      items = rw (p .1) value;
+      longer = omega arith;
       bound = omega (arith, p .0 .whole);
       capacity = omega arith;
       kept = refl;
@@ -353,7 +345,8 @@ statements-append-requires t c κs =
     let table : List Record = c .args .table .now in
     let at : ℕ = c .args .at in
     let k : 0 < c .args .count = omega arith in
-    let p = firsts table at (c .args .count) (c .statement-next .result) _ k (c .pre .sound) (c .statement-next .ensures .next) in
+    let p = firsts table at (c .args .count) (c .statement-next .result) _ k (c .pre .sound)
+    (c .statement-next .ensures .next) in
     omega (arith, p .whole)
 
 pub statements-statements-requires : need.statements-statements-requires
@@ -361,8 +354,11 @@ statements-statements-requires t c κs =
     let table : List Record = c .args .table .now in
     let at : ℕ = c .args .at in
     let k : 0 < c .args .count = omega arith in
-    let p = firsts table at (c .args .count) (c .statement-next .result) _ k (c .pre .sound) (c .statement-next .ensures .next) in
-    (omega (arith, p .later, p .ends, p .within), (omega (arith, p .ends), (p .others, (omega (arith, p .later), omega (arith, p .whole)))))
+    let p = firsts table at (c .args .count) (c .statement-next .result) _ k (c .pre .sound)
+    (c .statement-next .ensures .next) in (
+      omega (arith, p .later, p .ends, p .within),
+      (omega (arith, p .ends), (p .others, (omega (arith, p .later), omega (arith, p .whole)))),
+    )
 
 pub statements-returns : need.statements-returns
 statements-returns t c =
@@ -374,14 +370,17 @@ statements-returns t c =
     let scope : List ℕ = contents (c .args .scope .now) in
     let before : List Instruction = vec-items (c .args .code .now) in
     let k : 0 < c .args .count = omega arith in
-    let p = firsts table at (c .args .count) (c .statement-next .result) _ k (c .pre .sound) (c .statement-next .ensures .next) in
-    let l0 : length (vec-items (c .args .code .now)) ≡ vec-len (c .args .code .now) = omega (arith, c .args .code .now .ok .0) in
-    let l2 : length (vec-items (c .append .last .code)) ≡ vec-len (c .append .last .code) = omega (arith, c .append .last .code .ok .0) in
+    let p = firsts table at (c .args .count) (c .statement-next .result) _ k (c .pre .sound)
+    (c .statement-next .ensures .next) in
     let ss : Statements = statementsAt table (c .statement-next .result) (c .args .count - 1) in
-    let i₃ : vec-items (c .statements .last .code) ≡ vec-items (c .append .last .code) ++ blockCode globals functions leave ss (reverse scope) (c .args .place) (vec-len (c .append .last .code)) =
-    c .statements .ensures .items ∙ ap (λ (l : List ℕ). vec-items (c .append .last .code) ++ blockCode globals functions leave ss (reverse l) (c .args .place) (vec-len (c .append .last .code))) (c .statement-next .ensures .kept) in
+    let others = under _ _
+    (λ l. blockCode globals functions leave ss (reverse l) (c .args .place) (vec-len (c .append .last .code))) _ _
+    (c .statements .ensures .items) (c .statement-next .ensures .kept) in
     record {
-      items = rw (p .parts) (then-code globals functions leave (reverse scope) (c .args .place) (statementAt table at) ss before _ _ _ (vec-len (c .args .code .now)) (vec-len (c .append .last .code)) l0 l2 (c .statement-next .ensures .items) (c .append .ensures .items) i₃);
+      items = rw (p .parts) (then-code globals functions leave (reverse scope) (c .args .place)
+          (statementAt table at) ss before _ _ _ (vec-len (c .args .code .now)) (vec-len (c .append .last .code)) (long (c .args .code .now))
+          (long (c .append .last .code)) (c .statement-next .ensures .items) (c .append .ensures .items) others);
+      longer = omega arith;
       bound = omega (arith, p .whole);
       capacity = omega arith;
       kept = c .statements .ensures .kept ∙ c .statement-next .ensures .kept;
