@@ -2,6 +2,7 @@
 mod emit;
 mod expressions;
 mod functions;
+pub mod laws;
 mod statements;
 pub mod translation;
 
