@@ -1,9 +1,11 @@
-// Checks a node table that is given as text on standard input, and walks it over a bay table.
+// Checks a node table that is given as text on standard input, lists its code, and walks it over a bay table.
+mod listing;
 mod outline;
 mod reader;
 mod walking;
 mod wording;
 
+use listing::list_code;
 use outline::outline;
 use reader::Job;
 use reader::ReadErrorError;
@@ -29,6 +31,7 @@ fn run(rt: &LibcRuntime) -> Result<(), AnyError> {
         Ok(()) => {
             println!(rt, "accepted, records {}", job.table.len())?;
             rt.print(outline(rt.alloc(), &job.table)?.as_str())?;
+            list_code(rt, &job.table)?;
             walk_job(rt, &job)
         }
         Err(refusal) => print_refusal(rt, refusal),
