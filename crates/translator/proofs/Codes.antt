@@ -4,7 +4,7 @@ use mathlib.Core.List.{List, [], _∷_, _++_, map, append-assoc}
 use Prim.Native.Nat.{ℕ, suc, _+_}
 use native.Mathlib.Omega.{arith}
 use lib.IntN.{ℤ, pos}
-use lib.ListN.{length, set, length-append, replicate}
+use lib.ListN.{length, set, length-set, length-append, replicate}
 use Rattle.std.proofs.shelf.Lists.{set-at}
 use Rattle.syntax.specs.Syntax.{VariableDeclaration, declare, Expression, Statement, ifElse, while, block, Statements, then}
 use Rattle.syntax.specs.Syntax.{nameOf, bindNames}
@@ -15,41 +15,45 @@ use Rattle.code.specs.declared.instruction.Instruction.{Instruction}
 use Rattle.code.specs.Scheme.{op, expressionCode, statementCode, blockCode, pushLocals, popLocals}
 
 module _ (globals : List ℕ) (functions : List Signature) (leave : Operation) (own : List ℕ) where
-  -- An if: `before` is the code up to it, `tested` to `second` what stands after each piece, `once` and `twice` after
-  -- each jump is written; h₁ and h₂ are what stood in the place of the jumps.
+  -- An if: `before` is the code up to it, then what stands after each piece; h₁ and h₂ are what stood in the place of
+  -- the jumps, which get their target in `once` and `twice`.
   pub if-code : (a : ℕ) (e : Expression) (s t : Statement)
-      (before tested jumped first skipped second once twice : List Instruction)
-      (start test inner skip other end : ℕ) (h₁ h₂ : Instruction) →
+      (before tested jumped first skipped once second twice : List Instruction)
+      (start test inner skip other rest end : ℕ) (h₁ h₂ : Instruction) →
       length before ≡ start → length tested ≡ test → length jumped ≡ inner → length first ≡ skip →
-      length skipped ≡ other → length second ≡ end →
+      length skipped ≡ other → length once ≡ rest → length second ≡ end →
       tested ≡ before ++ expressionCode globals functions e own → jumped ≡ tested ++ h₁ ∷ [] →
       first ≡ jumped ++ statementCode globals functions leave s own inner → skipped ≡ first ++ h₂ ∷ [] →
-      second ≡ skipped ++ statementCode globals functions leave t own other →
-      once ≡ set second test (op a (Jz other)) → twice ≡ set once skip (op a (Jmp end)) →
+      once ≡ set skipped test (op a (Jz other)) →
+      second ≡ once ++ statementCode globals functions leave t own rest →
+      twice ≡ set second skip (op a (Jmp end)) →
       twice ≡ before ++ statementCode globals functions leave (ifElse a e s t) own start
-  if-code a e s t before tested jumped first skipped second once twice start test inner skip other end h₁ h₂
-      l₀ l₁ l₂ l₃ l₄ l₅ e₁ e₂ e₃ e₄ e₅ e₆ e₇ =
+  if-code a e s t before tested jumped first skipped once second twice start test inner skip other rest end h₁ h₂
+      l₀ l₁ l₂ l₃ l₄ l₅ l₆ e₁ e₂ e₃ e₄ e₅ e₆ e₇ =
       let c : List Instruction = expressionCode globals functions e own in
       let d : List Instruction = statementCode globals functions leave s own inner in
-      let f : List Instruction = statementCode globals functions leave t own other in
+      let f : List Instruction = statementCode globals functions leave t own rest in
       let n₁ : length tested ≡ length before + length c = ap length e₁ ∙ length-append before c in
       let n₂ : length jumped ≡ length tested + 1 = ap length e₂ ∙ length-append tested (h₁ ∷ []) in
       let n₃ : length first ≡ length jumped + length d = ap length e₃ ∙ length-append jumped d in
       let n₄ : length skipped ≡ length first + 1 = ap length e₄ ∙ length-append first (h₂ ∷ []) in
-      let n₅ : length second ≡ length skipped + length f = ap length e₅ ∙ length-append skipped f in
+      let n₅ : length once ≡ length skipped = ap length e₅ ∙ length-set skipped test (op a (Jz other)) in
+      let n₆ : length second ≡ length once + length f = ap length e₆ ∙ length-append once f in
       let inner-is : inner ≡ suc (start + length c) = omega arith in
-      let other-is : other ≡ suc (inner + length d) = omega arith in
-      let end-is : end ≡ other + length f = omega arith in
-      let b₅ : second ≡ (before ++ c) ++ h₁ ∷ (d ++ h₂ ∷ f) = e₅ ∙ rw (e₄, e₃, e₂, e₁) (simp append-assoc) in
-      let b₆ : once ≡ (before ++ c) ++ op a (Jz other) ∷ (d ++ h₂ ∷ f) =
-      e₆ ∙ rw b₅ (set-at (before ++ c) h₁ (d ++ h₂ ∷ f) (op a (Jz other)) test (length-append before c ∙ omega arith)) in
+      let rest-is : rest ≡ suc (inner + length d) = omega arith in
+      let other-is : other ≡ rest = omega arith in
+      let end-is : end ≡ rest + length f = omega arith in
+      let b₄ : skipped ≡ (before ++ c) ++ h₁ ∷ (d ++ h₂ ∷ []) = e₄ ∙ rw (e₃, e₂, e₁) (simp append-assoc) in
+      let b₅ : once ≡ (before ++ c) ++ op a (Jz other) ∷ (d ++ h₂ ∷ []) =
+      e₅
+      ∙ rw b₄ (set-at (before ++ c) h₁ (d ++ h₂ ∷ []) (op a (Jz other)) test (length-append before c ∙ omega arith)) in
       let g : List Instruction = (before ++ c) ++ op a (Jz other) ∷ d in
       let ng : length g ≡ skip =
       length-append (before ++ c) (op a (Jz other) ∷ d)
       ∙ (ap (λ (z : ℕ). z + suc (length d)) (length-append before c) ∙ omega arith) in
-      let b₆′ : once ≡ g ++ h₂ ∷ f = b₆ ∙ simp append-assoc in
-      let b₇ : twice ≡ g ++ op a (Jmp end) ∷ f = e₇ ∙ rw b₆′ (set-at g h₂ f (op a (Jmp end)) skip ng) in
-      rw (← inner-is, ← other-is) (b₇ ∙ rw end-is (simp append-assoc))
+      let b₆ : second ≡ g ++ h₂ ∷ f = e₆ ∙ rw b₅ (simp append-assoc) in
+      let b₇ : twice ≡ g ++ op a (Jmp end) ∷ f = e₇ ∙ rw b₆ (set-at g h₂ f (op a (Jmp end)) skip ng) in
+      rw (← inner-is, ← rest-is) (b₇ ∙ rw (end-is, other-is) (simp append-assoc))
 
   -- A while, likewise.
   pub while-code : (a : ℕ) (e : Expression) (s : Statement)

@@ -16,6 +16,7 @@ ghost use Rattle.code.specs.Scheme.{functionCode, functionsCode, entriesFrom, n
 ghost use Rattle.code.specs.Scheme.{programCode, functionEntries, globalNumbers};
 ghost use Rattle.translator.specs.Records.{entryOf};
 use crate::emit::append;
+use crate::emit::append_literal;
 use crate::statements::statement;
 use code::instruction::FunctionEntry;
 use code::instruction::Instruction;
@@ -85,7 +86,7 @@ fn function(
     let body = at + 1 + count;
     let next = statement(table, body, Operation::Ret, globals, functions, scope, code);
     append(code, Operation::Pop, at);
-    append(code, Operation::Lit(0), at);
+    append_literal(code, 0, at);
     append(code, Operation::Ret, at);
     next
 }

@@ -7,3 +7,6 @@ mod statements;
 pub mod translation;
 
 pub use translation::Translation;
+
+#[cfg(test)]
+mod tests;

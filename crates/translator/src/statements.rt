@@ -12,8 +12,10 @@ ghost use Rattle.syntax.specs.Trees.{treeAt, pieces, size, sizes, Sound, Sounds
 ghost use Rattle.syntax.specs.Typed.{statementAt, statementsAt, variablesAt, nodeAt};
 ghost use Rattle.code.specs.Scheme.{statementCode, blockCode, pushLocals};
 use crate::emit::append;
+use crate::emit::append_literal;
 use crate::emit::append_pops;
-use crate::emit::patch;
+use crate::emit::patch_jmp;
+use crate::emit::patch_jz;
 use crate::expressions::expression;
 use code::instruction::Instruction;
 use code::instruction::Operation;
@@ -51,7 +53,7 @@ fn enter(
     }
     let node = table[at];
     scope.push(node.a);
-    append(code, Operation::Lit(node.v), place);
+    append_literal(code, node.v, place);
     enter(table, count - 1, at + 1, place, scope, code)
 }
 
@@ -95,7 +97,7 @@ pub fn statement(
     }
 }
 
-// Both jumps are put down empty, and written when the code they jump over is there.
+// Both jumps are put down without their target, and get it when the code they jump over is there.
 fn if_statement(
     table: &[Record],
     at: usize,
@@ -129,11 +131,9 @@ fn if_statement(
     let second = statement(table, first, leave, globals, functions, scope, code);
     let skip = code.len();
     append(code, Operation::Jmp(0), at);
-    let other = code.len();
+    patch_jz(code, test, at);
     let next = statement(table, second, leave, globals, functions, scope, code);
-    let end = code.len();
-    patch(code, test, Operation::Jz(other), at);
-    patch(code, skip, Operation::Jmp(end), at);
+    patch_jmp(code, skip, at);
     next
 }
 
@@ -172,9 +172,8 @@ fn while_statement(
     let next = statement(table, body, leave, globals, functions, scope, code);
     append(code, Operation::Pop, at);
     append(code, Operation::Jmp(again), at);
-    let end = code.len();
-    patch(code, test, Operation::Jz(end), at);
-    append(code, Operation::Lit(0), at);
+    patch_jz(code, test, at);
+    append_literal(code, 0, at);
     next
 }
 
@@ -222,7 +221,7 @@ fn block(
         code,
     );
     append_pops(code, count, at);
-    append(code, Operation::Lit(0), at);
+    append_literal(code, 0, at);
     scope.cut(mark);
     next
 }

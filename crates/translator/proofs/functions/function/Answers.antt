@@ -53,16 +53,16 @@ append-requires c κs =
     (c .part-count-count .ensures) refl in
     omega (arith, p .whole)
 
-pub append-requires-2 : need.append-requires-2
-append-requires-2 c κs =
+pub append-literal-requires : need.append-literal-requires
+append-literal-requires c κs =
     let at : ℕ = c .args .at in
     let n : ℕ = c .part-count-count .result in
     let p = functional (c .args .table .now) at n (at + 1 + n) noRecord (c .pre .within) (c .pre .sound) (c .pre .kind)
     (c .part-count-count .ensures) refl in
     omega (arith, p .whole)
 
-pub append-requires-3 : need.append-requires-3
-append-requires-3 c κs =
+pub append-requires-2 : need.append-requires-2
+append-requires-2 c κs =
     let at : ℕ = c .args .at in
     let n : ℕ = c .part-count-count .result in
     let p = functional (c .args .table .now) at n (at + 1 + n) noRecord (c .pre .within) (c .pre .sound) (c .pre .kind)
@@ -93,8 +93,8 @@ returns c =
       items = function-code globals functions (functionOf (treeAt table at))
           (functionAt table at n (at + 1 + n) (getD table at noRecord)) (vec-items (c .args .code .now)) _ _ _ _ own start
           (p .is) bound
-          (c .statement-next .ensures .items) (c .append .ensures .items) (c .append-2 .ensures .items)
-          (c .append-3 .ensures .items);
+          (c .statement-next .ensures .items) (c .append .ensures .items) (c .append-literal .ensures .items)
+          (c .append-2 .ensures .items);
       bound = omega (arith, p .whole);
       capacity = omega arith;
       store = c .statement-next .ensures .store ∙ (c .bind .ensures .store ∙ ap length (c .cut .ensures .words));

@@ -2,7 +2,7 @@ use mathlib.Core.Path.{_≡_, refl, sym, _∙_, ap}
 use mathlib.Core.List.{List, _++_, _∷_, [], map, reverse}
 use Prim.Native.Nat.{ℕ, _+_, _*_, _-_, _<_, _≤_}
 use native.Mathlib.Omega.{arith}
-use lib.ListN.{length, getD, set}
+use lib.ListN.{length, getD}
 use Rattle.std.specs.Of.Vec.{vec-items, vec-len, vec-cap}
 use Rattle.stack.specs.Store.{contents, capacity}
 use Rattle.stack.proofs.Contents.{length-contents, contents-cut}
@@ -16,7 +16,7 @@ use Rattle.syntax.proofs.Shapes.{simple-kind, simple-at, return-at, chosen, loo
 use Rattle.names.specs.declared.signature.Signature.{Signature}
 use Rattle.names.proofs.Scopes.{dropped}
 use Rattle.code.specs.declared.instruction.Operation.{Operation}
-use Rattle.code.specs.declared.instruction.Operation.the-variants.{Jz, Jmp, Pop}
+use Rattle.code.specs.declared.instruction.Operation.the-variants.{Jmp}
 use Rattle.code.specs.declared.instruction.Instruction.{Instruction}
 use Rattle.code.specs.Scheme.{op, expressionCode, statementCode, blockCode}
 use Rattle.translator.proofs.Lists.{joined, under, long}
@@ -77,20 +77,18 @@ if-statement-returns t c =
     (c .expression-first .ensures .items) (c .live .ensures) in
     let second = under _ _
     (λ l. statementCode globals functions leave (statementAt table (c .statement-second .result)) (reverse l)
-    (vec-len (c .append-2 .last .code))) _ _ (c .statement-next .ensures .items) (c .statement-second .ensures .kept) in
-    let once = c .patch .ensures .items
-    ∙ ap (λ (z : ℕ). set (vec-items (c .statement-next .last .code)) (c .len-test .result) (op at (Jz z)))
-    (c .len-other .ensures) in
+    (vec-len (c .patch-jz .last .code))) _ _ (c .statement-next .ensures .items) (c .statement-second .ensures .kept) in
     record {
       items = rw (p .is) (if-code globals functions leave (reverse scope) at (expressionAt table (at + 1))
           (statementAt table (c .expression-first .result)) (statementAt table (c .statement-second .result)) before
           _ _ _ _ _ _ _ (vec-len (c .args .code .now)) (c .len-test .result) (vec-len (c .append .last .code))
-          (c .len-skip .result) (vec-len (c .append-2 .last .code)) (c .len-end .result) _ _
+          (c .len-skip .result) (vec-len (c .append-2 .last .code)) (vec-len (c .patch-jz .last .code))
+          (vec-len (c .statement-next .last .code)) _ _
           (long (c .args .code .now)) (long (c .expression-first .last .code) ∙ sym (c .len-test .ensures))
           (long (c .append .last .code)) (long (c .statement-second .last .code) ∙ sym (c .len-skip .ensures))
-          (long (c .append-2 .last .code)) (long (c .statement-next .last .code) ∙ sym (c .len-end .ensures))
+          (long (c .append-2 .last .code)) (long (c .patch-jz .last .code)) (long (c .statement-next .last .code))
           tested (c .append .ensures .items) (c .statement-second .ensures .items) (c .append-2 .ensures .items)
-          second once (c .patch-2 .ensures .items));
+          (c .patch-jz .ensures .items) second (c .patch-jmp .ensures .items));
       longer = omega arith;
       bound = omega (arith, p .whole);
       capacity = omega arith;
@@ -146,8 +144,8 @@ while-statement-append-requires-4 t c κs =
     (c .expression-body .ensures .next) in
     omega (arith, p .whole, p .some)
 
-pub while-statement-append-requires-5 : need.while-statement-append-requires-5
-while-statement-append-requires-5 t c κs =
+pub while-statement-append-literal-requires : need.while-statement-append-literal-requires
+while-statement-append-literal-requires t c κs =
     let table : List Record = c .args .table .now in
     let at : ℕ = c .args .at in
     let p = looped table at (c .expression-body .result) (c .pre .within) (c .pre .sound) (c .pre .kind)
@@ -172,11 +170,11 @@ while-statement-returns t c =
     record {
       items = rw (p .is) (while-code globals functions leave (reverse scope) at (expressionAt table (at + 1))
           (statementAt table (c .expression-body .result)) before _ _ _ _ _ _ _ _ (vec-len (c .args .code .now))
-          (c .len-test .result) (vec-len (c .append-2 .last .code)) (c .len-end .result) _
+          (c .len-test .result) (vec-len (c .append-2 .last .code)) (vec-len (c .append-4 .last .code)) _
           (long (c .args .code .now)) (long (c .expression-body .last .code) ∙ sym (c .len-test .ensures))
-          (long (c .append-2 .last .code)) (long (c .append-4 .last .code) ∙ sym (c .len-end .ensures))
+          (long (c .append-2 .last .code)) (long (c .append-4 .last .code))
           (c .append .ensures .items) tested (c .append-2 .ensures .items) (c .statement-next .ensures .items)
-          (c .append-3 .ensures .items) back (c .patch .ensures .items) (c .append-5 .ensures .items));
+          (c .append-3 .ensures .items) back (c .patch-jz .ensures .items) (c .append-literal .ensures .items));
       longer = omega arith;
       bound = omega (arith, p .whole, p .some);
       capacity = omega arith;
@@ -212,8 +210,8 @@ block-append-pops-requires t c κs =
     (c .pre .kind) refl (c .statement-count .ensures) refl in
     omega (arith, p .whole)
 
-pub block-append-requires : need.block-append-requires
-block-append-requires t c κs =
+pub block-append-literal-requires : need.block-append-literal-requires
+block-append-literal-requires t c κs =
     let table : List Record = c .args .table .now in
     let at : ℕ = c .args .at in
     let k : ℕ = getD table at noRecord .a in
@@ -247,7 +245,7 @@ block-returns t c =
     record {
       items = rw (p .is) (block-code globals functions leave (reverse scope) at ds ss before _ _ _ _
           (vec-len (c .args .code .now)) (vec-len (c .enter .last .code)) k (c .enter .ensures .len) (p .many)
-          (c .enter .ensures .items) inside (c .append-pops .ensures .items) (c .append .ensures .items));
+          (c .enter .ensures .items) inside (c .append-pops .ensures .items) (c .append-literal .ensures .items));
       longer = omega arith;
       bound = omega (arith, p .whole);
       capacity = omega arith;

@@ -53,7 +53,7 @@ returns t c =
       height = omega (arith, h, c .enter .ensures .height);
       store = c .enter .ensures .store ∙ s;
       items = local-words _ _ _ ds es (p .is) (c .args .place) _ _ _
-          (c .append .ensures .items
+          (c .append-literal .ensures .items
           ∙ ap (λ (x : ℤ). vec-items (c .args .code .now) ++ op (c .args .place) (Lit x) ∷ []) (toZ-ofZ w32 z f))
           (c .enter .ensures .items);
       len = omega arith;
