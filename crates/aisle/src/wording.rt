@@ -95,6 +95,10 @@ pub impl fmt::Display for Explained as ExplainedDisplay {
                 f,
                 "a slice that is lent is too short: {wanted} elements are wanted"
             ),
+            Refusal::WrongState => write!(
+                f,
+                "the cell does not take this call in the state that it is in"
+            ),
         }
     }
 }

@@ -16,6 +16,7 @@ use Rattle.script.specs.declared.refusal.Refusal.the-variants.{
   FrameNeed,
   FuelOrDepth,
   TooFewWords,
+  WrongState,
 }
 
 -- the number by which a refusal is known; a table of the wrong length is 4 whichever way it is wrong
@@ -31,6 +32,7 @@ number (ArgumentCount at) = 7
 number FrameNeed = 8
 number FuelOrDepth = 9
 number (TooFewWords wanted) = 10
+number WrongState = 11
 
 -- what a refusal tells: the record at fault, the record count of a table that ends early, the elements that are
 -- wanted of a lent slice, or 0
@@ -46,6 +48,7 @@ tells (ArgumentCount at) = at
 tells FrameNeed = 0
 tells FuelOrDepth = 0
 tells (TooFewWords wanted) = wanted
+tells WrongState = 0
 
 -- the answer is a refusal with this number that tells this
 abbrev pub RefusedWith : {A : Type 0} → Result A Refusal → ℕ → ℕ → Type 0

@@ -26,6 +26,8 @@ pub enum Refusal {
     FuelOrDepth,
     // A lent slice is too short: how many elements are wanted.
     TooFewWords(usize),
+    // The call is not one for the state that the cell is in.
+    WrongState,
 }
 
 impl Refusal {
@@ -44,6 +46,7 @@ impl Refusal {
             Refusal::FrameNeed => 8,
             Refusal::FuelOrDepth => 9,
             Refusal::TooFewWords(_) => 10,
+            Refusal::WrongState => 11,
         }
     }
 
@@ -62,6 +65,7 @@ impl Refusal {
             Refusal::ArgumentCount(record) => record,
             Refusal::FrameNeed | Refusal::FuelOrDepth => 0,
             Refusal::TooFewWords(wanted) => wanted,
+            Refusal::WrongState => 0,
         }
     }
 }
