@@ -1,4 +1,5 @@
-// Reads a node table as text: three numbers a record, white space between them, `#` begins a comment.
+// Reads a node table as text: three numbers a record, white space between them, `#` begins a comment. Between
+// records a word and a number set what the table is walked with.
 use script::Record;
 use std::alloc::AllocError;
 use std::alloc::Global;
@@ -17,7 +18,9 @@ pub enum Problem {
     NameRange,
     // a field v does not fit signed 32 bits
     ValueRange,
-    // the text ends within a record
+    // a setting is not 0 to 4,294,967,295
+    SettingRange,
+    // the text ends within a record or a setting
     Incomplete,
 }
 
@@ -47,9 +50,13 @@ pub impl fmt::Display for Fault as FaultDisplay {
                     "line {line}: the third number of a record is from -2147483648 to 2147483647"
                 )
             }
+            Problem::SettingRange => write!(
+                f,
+                "line {line}: a setting is a number from 0 to 4294967295"
+            ),
             Problem::Incomplete => write!(
                 f,
-                "line {line}: the text ends within a record, which is three numbers"
+                "line {line}: the text ends within a record, which is three numbers, or within a setting"
             ),
         }
     }
@@ -84,18 +91,64 @@ pub impl<T: Drop> From<Refused<T>> for ReadError as ReadErrorFromRefused {
     }
 }
 
-// How far the record that is being read has come.
+// What a table is walked with.
+#[derive(Clone, Copy)]
+pub struct Settings {
+    // how many bays there are
+    pub bays: u32,
+    pub fuel: u32,
+    pub depth: u32,
+    // how many names and words the two slices have
+    pub slices: u32,
+}
+
+// The slices are as long as any accepted table can want: 128 globals, and 64 frames of 100 words.
+const DEFAULTS: Settings = Settings {
+    bays: 16,
+    fuel: 10000,
+    depth: 63,
+    slices: 6528,
+};
+
+#[derive(Clone, Copy)]
+enum Setting {
+    Bays,
+    Fuel,
+    Depth,
+    Slices,
+}
+
+fn setting_named(word: &str) -> Option<Setting> {
+    match word {
+        "bays" => Some(Setting::Bays),
+        "fuel" => Some(Setting::Fuel),
+        "depth" => Some(Setting::Depth),
+        "slices" => Some(Setting::Slices),
+        _ => None,
+    }
+}
+
+// How far the record or the setting that is being read has come.
 #[derive(Clone, Copy)]
 enum Begun {
     Nothing,
+    Setting(Setting),
     Kind(u8),
     KindAndName(u8, u16),
 }
 
-// The records read so far, and the one begun.
+// A text that was read.
+#[derive(Drop)]
+pub struct Job {
+    pub table: Vec<Record>,
+    pub settings: Settings,
+}
+
+// The records read so far, the settings, and what is begun.
 #[derive(Drop)]
 pub struct TableReader {
     records: Vec<Record>,
+    settings: Settings,
     begun: Begun,
     line: usize,
 }
@@ -104,6 +157,7 @@ impl TableReader {
     pub fn new(heap: Global) -> TableReader {
         TableReader {
             records: Vec::new(heap),
+            settings: DEFAULTS,
             begun: Begun::Nothing,
             line: 0,
         }
@@ -120,6 +174,12 @@ impl TableReader {
 
     fn take_word(&mut self, word: &str) -> Result<(), ReadError> {
         let line = self.line;
+        if let Begun::Nothing = self.begun {
+            if let Some(setting) = setting_named(word) {
+                self.begun = Begun::Setting(setting);
+                return Ok(());
+            }
+        }
         let number = match word.parse::<i64>() {
             Ok(number) => number,
             Err(_) => return Err(no_table(line, Problem::NotANumber)),
@@ -131,6 +191,14 @@ impl TableReader {
                     Err(_) => return Err(no_table(line, Problem::KindRange)),
                 };
                 self.begun = Begun::Kind(kind);
+            }
+            Begun::Setting(setting) => {
+                let value = match u32::try_from(number) {
+                    Ok(value) => value,
+                    Err(_) => return Err(no_table(line, Problem::SettingRange)),
+                };
+                self.begun = Begun::Nothing;
+                self.set(setting, value);
             }
             Begun::Kind(kind) => {
                 let a = match u16::try_from(number) {
@@ -151,16 +219,32 @@ impl TableReader {
         Ok(())
     }
 
-    // The table, where the text does not end within a record.
-    pub fn finish(self) -> Result<Vec<Record>, ReadError> {
+    fn set(&mut self, setting: Setting, value: u32) {
+        match setting {
+            Setting::Bays => self.settings.bays = value,
+            Setting::Fuel => self.settings.fuel = value,
+            Setting::Depth => self.settings.depth = value,
+            Setting::Slices => self.settings.slices = value,
+        }
+    }
+
+    // The table and its settings, where the text does not end within a record or a setting.
+    pub fn finish(self) -> Result<Job, ReadError> {
         let TableReader {
             records,
+            settings,
             begun,
             line,
         } = self;
         match begun {
-            Begun::Nothing => Ok(records),
-            Begun::Kind(_) | Begun::KindAndName(_, _) => Err(no_table(line, Problem::Incomplete)),
+            Begun::Nothing => Ok(Job {
+                table: records,
+                settings,
+            }),
+            Begun::Setting(_) | Begun::Kind(_) | Begun::KindAndName(_, _) => Err(no_table(
+                line,
+                Problem::Incomplete,
+            )),
         }
     }
 }
@@ -178,7 +262,7 @@ fn without_comment(line: &str) -> &str {
 }
 
 // A whole text.
-pub fn read_table(heap: Global, text: &str) -> Result<Vec<Record>, ReadError> {
+pub fn read_job(heap: Global, text: &str) -> Result<Job, ReadError> {
     let mut reader = TableReader::new(heap);
     for line in text.lines() {
         reader.take_line(line)?;
@@ -192,7 +276,7 @@ mod tests {
     use std::test::*;
 
     fn faults(rt: LibcRuntime, text: &str, line: usize, problem: Problem) -> Result<(), Fail> {
-        match read_table(rt.alloc(), text) {
+        match read_job(rt.alloc(), text) {
             Ok(_) => Err(Fail::new("read")),
             Err(ReadError::NoMemory) => Err(Fail::new("no memory")),
             Err(ReadError::Text(fault)) => check_eq(fault, Fault { line, problem }),
@@ -201,13 +285,13 @@ mod tests {
 
     #[test]
     fn records_are_read(rt: LibcRuntime) -> Result<(), Fail> {
-        let table = match read_table(
-            rt.alloc(),
-            "# none yet\n 1 0 -7 2 # a variable\n\n\t255 0\n",
-        ) {
-            Ok(table) => table,
+        let text = "# none yet\n 1 0 -7 fuel\n9 2 # a variable\n\n\t255 0\n";
+        let job = match read_job(rt.alloc(), text) {
+            Ok(job) => job,
             Err(_) => return Err(Fail::new("refused")),
         };
+        check_eq(job.settings.fuel, 9)?;
+        let table = job.table;
         check(table.len() == 2)?;
         check_eq(table[0].v, -7)?;
         check_eq(table[1].a, 255)
@@ -219,6 +303,7 @@ mod tests {
         faults(rt.clone()?, "256 0 0", 1, Problem::KindRange)?;
         faults(rt.clone()?, "1\n65536 0", 2, Problem::NameRange)?;
         faults(rt.clone()?, "1 0 2147483648", 1, Problem::ValueRange)?;
+        faults(rt.clone()?, "fuel -1", 1, Problem::SettingRange)?;
         faults(rt, "1 0 0\n1 0\n", 2, Problem::Incomplete)
     }
 }

@@ -3,3 +3,4 @@ pub mod Counter
 pub mod Rail
 pub mod Laws
 pub mod Edges
+pub mod Words

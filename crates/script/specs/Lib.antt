@@ -4,3 +4,5 @@ pub mod Rows
 pub mod Shape
 pub mod EndBay
 pub mod ShapeCases
+pub mod Endings
+pub mod Bays

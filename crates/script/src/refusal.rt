@@ -14,6 +14,20 @@ pub enum Refusal {
     EndsEarly(usize),
     // The program is complete before the table ends: the first record after it.
     LeftOver(usize),
+    // A name is declared twice: the second of the two records.
+    DeclaredTwice(usize),
+    // This record uses a variable or a function that is not declared.
+    Undeclared(usize),
+    // This call has more or fewer arguments than its function has parameters.
+    ArgumentCount(usize),
+    // A frame would need more than 100 words.
+    FrameNeed,
+    // The fuel is over 1,000,000 or the depth over 63.
+    FuelOrDepth,
+    // A lent slice is too short: how many elements are wanted.
+    TooFewWords(usize),
+    // The call is not one for the state that the cell is in.
+    WrongState,
 }
 
 impl Refusal {
@@ -26,6 +40,13 @@ impl Refusal {
             Refusal::UnexpectedKind(_) => 2,
             Refusal::FieldOutOfBounds(_) => 3,
             Refusal::EndsEarly(_) | Refusal::LeftOver(_) => 4,
+            Refusal::DeclaredTwice(_) => 5,
+            Refusal::Undeclared(_) => 6,
+            Refusal::ArgumentCount(_) => 7,
+            Refusal::FrameNeed => 8,
+            Refusal::FuelOrDepth => 9,
+            Refusal::TooFewWords(_) => 10,
+            Refusal::WrongState => 11,
         }
     }
 
@@ -39,6 +60,12 @@ impl Refusal {
             Refusal::FieldOutOfBounds(record) => record,
             Refusal::EndsEarly(count) => count,
             Refusal::LeftOver(record) => record,
+            Refusal::DeclaredTwice(record) => record,
+            Refusal::Undeclared(record) => record,
+            Refusal::ArgumentCount(record) => record,
+            Refusal::FrameNeed | Refusal::FuelOrDepth => 0,
+            Refusal::TooFewWords(wanted) => wanted,
+            Refusal::WrongState => 0,
         }
     }
 }

@@ -69,7 +69,7 @@ pub enum Count {
 }
 
 impl Count {
-    pub(crate) fn of(self, node: Record) -> usize
+    pub fn of(self, node: Record) -> usize
         ensures { λ r. ⌜ r ≡ amount self node ⌝ }
     {
         match self {

@@ -1,0 +1,9 @@
+pub mod Accepting
+pub mod Literals
+pub mod Standing
+pub mod ArmAndRun
+pub mod CallByCall
+pub mod Keeping
+pub mod Lists
+pub mod Budgeted
+pub mod GoingOn

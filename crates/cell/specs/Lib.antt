@@ -1,0 +1,5 @@
+pub mod Accepted
+pub mod Endings
+pub mod Outcomes
+pub mod Showing
+pub mod Promises

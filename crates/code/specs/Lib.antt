@@ -1,0 +1,3 @@
+pub mod Instructions
+pub mod Scheme
+pub mod CodeCases

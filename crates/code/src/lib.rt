@@ -1,0 +1,3 @@
+// Stack code: instructions and the code scheme.
+pub mod cases;
+pub mod instruction;

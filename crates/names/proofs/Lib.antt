@@ -1,0 +1,9 @@
+pub mod Searches
+pub mod Outcomes
+pub mod Rules
+pub mod Scopes
+pub mod Globals
+pub mod Functions
+pub mod Programs
+pub mod Acceptance
+pub mod Answered

@@ -1,0 +1,5 @@
+pub mod Lists
+pub mod Parts
+pub mod Codes
+pub mod Programs
+pub mod Lengths

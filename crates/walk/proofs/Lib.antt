@@ -1,0 +1,9 @@
+pub mod Skips
+pub mod Bindings
+pub mod States
+pub mod Declared
+pub mod Views
+pub mod Runs
+pub mod Readies
+pub mod Rans
+pub mod Walks

@@ -1,0 +1,5 @@
+pub mod Newest
+pub mod Lent
+pub mod Ready
+pub mod Walked
+pub mod WorkedCases
