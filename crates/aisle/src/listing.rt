@@ -36,7 +36,7 @@ impl fmt::Display for Listed as ListedDisplay {
     }
 }
 
-fn print_code(rt: &LibcRuntime, code: &[Instruction]) -> io::Result<()> {
+pub fn print_code(rt: &LibcRuntime, code: &[Instruction]) -> io::Result<()> {
     for (index, instruction) in code.iter().enumerate() {
         println!(rt, "code {index}: {}", Listed(*instruction))?;
     }

@@ -1,23 +1,44 @@
-// Checks a node table that is given as text on standard input, lists its code, and walks it over a bay table.
+// Makes the calls of a job on a cell; with an argument it checks or walks a node table instead.
+mod console;
 mod listing;
 mod outline;
-mod reader;
 mod walking;
 mod wording;
 
+use console::perform_job;
 use listing::list_code;
 use outline::outline;
-use reader::Job;
-use reader::ReadErrorError;
-use reader::TableReader;
 use script::check_shape;
+use std::env;
 use std::error::AnyError;
 use std::io::BufRead;
 use std::io::BufReader;
+use texts::job::JobErrorError;
+use texts::job::JobText;
+use texts::table::ReadErrorError;
+use texts::table::TableJob;
+use texts::table::TableReader;
 use walking::walk_job;
 use wording::print_refusal;
 
-fn read(rt: &LibcRuntime) -> Result<Job, AnyError> {
+const HELP: &str = "aisle: standard input is a job, one call a line; # begins a comment
+  rack bays N | rack occupancy N | rack rail W W ..   the first line
+  words N                                             the second line
+  load K A V  K A V ..   compile   arm FUEL DEPTH   run STEPS   stop
+aisle check: standard input is a node table, three numbers a record; its shape is checked and its outline printed
+aisle walk: the same, then its code, and a walk over a bay table; bays N, fuel N, depth N and slices N may stand between records
+aisle help: this text";
+
+fn read_job(rt: &LibcRuntime) -> Result<JobText, AnyError> {
+    let mut job = JobText::new(rt.alloc());
+    for line in BufReader::new(rt.stdin()).lines(rt.alloc()) {
+        job.take_line(line?.as_str())?;
+    }
+    job.finish()?;
+    Ok(job)
+}
+
+fn read_table(rt: &LibcRuntime) -> Result<TableJob, AnyError> {
     let mut reader = TableReader::new(rt.alloc());
     for line in BufReader::new(rt.stdin()).lines(rt.alloc()) {
         reader.take_line(line?.as_str())?;
@@ -25,16 +46,35 @@ fn read(rt: &LibcRuntime) -> Result<Job, AnyError> {
     Ok(reader.finish()?)
 }
 
-fn run(rt: &LibcRuntime) -> Result<(), AnyError> {
-    let job = read(rt)?;
+// Checks a table, and walks it too if that is asked.
+fn table(rt: &LibcRuntime, walks: bool) -> Result<(), AnyError> {
+    let job = read_table(rt)?;
     match check_shape(&job.table) {
         Ok(()) => {
             println!(rt, "accepted, records {}", job.table.len())?;
             rt.print(outline(rt.alloc(), &job.table)?.as_str())?;
-            list_code(rt, &job.table)?;
-            walk_job(rt, &job)
+            if walks {
+                list_code(rt, &job.table)?;
+                walk_job(rt, &job)?;
+            }
+            Ok(())
         }
         Err(refusal) => print_refusal(rt, refusal),
+    }
+}
+
+fn run(rt: &LibcRuntime) -> Result<(), AnyError> {
+    let mut arguments = env::args(rt)?;
+    let _ = arguments.next();
+    let Some(word) = arguments.next() else {
+        let job = read_job(rt)?;
+        return perform_job(rt, &job);
+    };
+    match word.as_str() {
+        "check" => table(rt, false),
+        "walk" => table(rt, true),
+        "help" => Ok(rt.println(HELP)?),
+        _ => Err("the argument is check, walk or help, or there is none".into()),
     }
 }
 

@@ -1,5 +1,4 @@
 // Walks a table of accepted shape over a bay table, and prints what the run came to.
-use crate::reader::Job;
 use crate::wording::Ended;
 use crate::wording::EndedDisplay;
 use crate::wording::print_refusal;
@@ -11,6 +10,7 @@ use script::Refusal;
 use std::alloc::AllocError;
 use std::error::AnyError;
 use std::io;
+use texts::table::TableJob;
 use walk::Report;
 use walk::walk;
 
@@ -47,7 +47,7 @@ fn print_report(rt: &LibcRuntime, report: Report) -> io::Result<()> {
     println!(rt, "ticks {}", report.ticks)
 }
 
-pub fn walk_job(rt: &LibcRuntime, job: &Job) -> Result<(), AnyError> {
+pub fn walk_job(rt: &LibcRuntime, job: &TableJob) -> Result<(), AnyError> {
     let heap = rt.alloc();
     let size = job.settings.slices as usize;
     let mut names = vec![in heap; 0u16; size]?;

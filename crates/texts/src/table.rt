@@ -139,7 +139,7 @@ enum Begun {
 
 // A text that was read.
 #[derive(Drop)]
-pub struct Job {
+pub struct TableJob {
     pub table: Vec<Record>,
     pub settings: Settings,
 }
@@ -229,7 +229,7 @@ impl TableReader {
     }
 
     // The table and its settings, where the text does not end within a record or a setting.
-    pub fn finish(self) -> Result<Job, ReadError> {
+    pub fn finish(self) -> Result<TableJob, ReadError> {
         let TableReader {
             records,
             settings,
@@ -237,7 +237,7 @@ impl TableReader {
             line,
         } = self;
         match begun {
-            Begun::Nothing => Ok(Job {
+            Begun::Nothing => Ok(TableJob {
                 table: records,
                 settings,
             }),
@@ -262,7 +262,7 @@ fn without_comment(line: &str) -> &str {
 }
 
 // A whole text.
-pub fn read_job(heap: Global, text: &str) -> Result<Job, ReadError> {
+pub fn read_job(heap: Global, text: &str) -> Result<TableJob, ReadError> {
     let mut reader = TableReader::new(heap);
     for line in text.lines() {
         reader.take_line(line)?;
