@@ -1,4 +1,5 @@
 // Reads a job: a rack, its words, and then one call a line. `#` begins a comment.
+use crate::table::without_comment;
 use script::Record;
 use std::alloc::AllocError;
 use std::alloc::Global;
@@ -128,13 +129,6 @@ fn number_in(line: usize, word: Option<&str>) -> Result<u32, JobError> {
     }
 }
 
-fn before_comment(line: &str) -> &str {
-    match line.split_once('#') {
-        Some((before, _)) => before,
-        None => line,
-    }
-}
-
 impl JobText {
     pub fn new(heap: Global) -> JobText {
         JobText {
@@ -151,7 +145,7 @@ impl JobText {
     // One line of the text; an empty one says nothing.
     pub fn take_line(&mut self, text: &str) -> Result<(), JobError> {
         self.line = self.line.saturating_add(1);
-        let text = before_comment(text);
+        let text = without_comment(text);
         let mut words = text.split_whitespace();
         let Some(first) = words.next() else {
             return Ok(());

@@ -254,7 +254,7 @@ fn no_table(line: usize, problem: Problem) -> ReadError {
 }
 
 // What stands before a `#`.
-fn without_comment(line: &str) -> &str {
+pub(crate) fn without_comment(line: &str) -> &str {
     match line.split_once('#') {
         Some((before, _)) => before,
         None => line,

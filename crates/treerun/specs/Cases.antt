@@ -100,7 +100,7 @@ zeroOrOne (negsuc n) = false
 abbrev pub counterReport : List Record → List ℤ → ℕ → ℕ → Report ℤ
 counterReport table bays fuel depth = reportOf counter everyWord (programOf table) bays fuel depth
 
-abbrev zeros : List ℤ
+abbrev pub zeros : List ℤ
 zeros = pos 0 ∷ pos 0 ∷ pos 0 ∷ []
 
 abbrev ones : List ℤ
