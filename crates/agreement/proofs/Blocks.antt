@@ -1,7 +1,7 @@
 -- The case of a block: its locals' literals before, the pops and the literal after its statements.
 use Rattle.std.proofs.Common.{◌≡◌, ℕ, suc, ◌+◌, ◌≤◌, List, [], ◌∷◌, ◌++◌, length, take, drop, pos, sym, refl, ap, ◌∙◌, subst, append_assoc, arith, length-drop, take-append-drop}
 use Rattle.syntax.specs.Syntax.{VariableDeclaration, declare}
-use Rattle.syntax.specs.Syntax.{bind_names, global_names}
+use Rattle.syntax.specs.Syntax.{bind_names}
 use Rattle.treerun.specs.TreeRun.{State, Outcome, value, returned, ended, bind_words, bind_variables}
 use Rattle.treerun.specs.TreeRun.{leave_block}
 use Rattle.code.specs.declared.instruction.Operation.TheVariants.{Lit, Pop}

@@ -1,5 +1,5 @@
 -- The cases of an if and of a while, over the runs of their parts.
-use Rattle.std.proofs.Common.{◌≡◌, ℕ, zero, suc, ◌+◌, ◌-◌, ◌<◌, ◌≤◌, List, [], ◌∷◌, length, pos, refl, arith}
+use Rattle.std.proofs.Common.{◌≡◌, ℕ, suc, ◌+◌, ◌-◌, ◌<◌, ◌≤◌, List, [], ◌∷◌, length, pos, refl, arith}
 use Rattle.treerun.specs.TreeRun.{State, Outcome, value}
 use Rattle.treerun.specs.TreeRun.{and_then, branch, spend}
 use Rattle.code.specs.declared.instruction.Operation.TheVariants.{Lit, Pop, Jz, Jmp, Tick}

@@ -1,10 +1,10 @@
 -- The case of a call: the arguments are on the stack, the body runs in a frame of its own.
-use Rattle.std.proofs.Common.{◌≡◌, ℕ, zero, suc, ◌+◌, ◌-◌, ◌*◌, ◌≤◌, Bool, true, false, T, eqb, ltb, ◌≢◌, List, [], ◌∷◌, ◌++◌, reverse, length, drop, pos, Some, Option, sym, refl, ap, ◌∙◌, subst, append_assoc, suc-mul, arith, length-append}
+use Rattle.std.proofs.Common.{◌≡◌, ℕ, zero, suc, ◌+◌, ◌-◌, ◌*◌, ◌≤◌, Bool, true, false, eqb, ltb, ◌≢◌, List, [], ◌∷◌, ◌++◌, reverse, length, drop, pos, Some, Option, sym, refl, ap, ◌∙◌, subst, append_assoc, suc-mul, arith, length-append}
 use lib.ListN.{length-reverse}
 use Rattle.std.specs.List.{slice_get}
 use Rattle.script.specs.declared.ending.Ending.TheVariants.{NoFuel, TooDeep}
 use Rattle.syntax.specs.Syntax.{Statement}
-use Rattle.syntax.specs.Syntax.{Function, global_names}
+use Rattle.syntax.specs.Syntax.{Function}
 use Rattle.names.specs.Need.{need_statement}
 use Rattle.treerun.specs.TreeRun.{State, Outcome, value, returned, ended, oldest, drop_to, bind_parameters}
 use Rattle.treerun.specs.TreeRun.{branch, spend_from, spend, leave_call, enter}

@@ -1,6 +1,5 @@
 -- Where a block or a call is left: the bindings above those of its surroundings are dropped.
 use Rattle.std.proofs.Common.{◌≡◌, ℕ, List, ◌++◌, length, sym, ap, ◌∙◌, length-append}
-use Rattle.syntax.specs.Syntax.{global_names}
 use Rattle.treerun.specs.TreeRun.{State, oldest, drop_to}
 use Rattle.agreement.proofs.Lists.{oldest-append}
 use Rattle.agreement.proofs.Relation.{Working, Surroundings, tree_state}

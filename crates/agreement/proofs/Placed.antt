@@ -1,6 +1,6 @@
 -- Where the code of a node stands: a relation, node by node, that the simulation follows. It also says what the names
 -- of the node mean: which slot a variable has, and which function a call enters.
-use Rattle.std.proofs.Common.{◌≡◌, ℕ, suc, ◌⊎◌, List, [], ◌∷◌, length, pos, Some, None, Option}
+use Rattle.std.proofs.Common.{◌≡◌, ℕ, suc, ◌⊎◌, List, [], ◌∷◌, length, pos, Some, None}
 use Rattle.std.specs.List.{slice_get}
 use Rattle.syntax.specs.Syntax.{VariableDeclaration, declare, Expression, constant, variable, binary, assign, call}
 use Rattle.syntax.specs.Syntax.{bay_read, bay_write}
@@ -9,7 +9,7 @@ use Rattle.syntax.specs.Syntax.{Statements, no_statement, then, Function, bind_n
 use Rattle.syntax.specs.Syntax.{function_named}
 use Rattle.code.specs.declared.instruction.Operation.{Operation}
 use Rattle.code.specs.declared.instruction.Operation.TheVariants.{Lit, GetL, SetL, GetG, SetG, Pop}
-use Rattle.code.specs.declared.instruction.Operation.TheVariants.{Jz, Jmp, Tick, Call, Ret, BayR, BayW, Halt}
+use Rattle.code.specs.declared.instruction.Operation.TheVariants.{Jz, Jmp, Tick, Call, BayR, BayW}
 use Rattle.code.specs.Scheme.{op, operator_code}
 use Rattle.agreement.proofs.Scene.{Scene}
 

@@ -2,7 +2,6 @@
 use Rattle.std.proofs.Common.{◌≡◌, ℕ, suc, ◌+◌, ◌-◌, ◌*◌, ◌<◌, ◌≤◌, T, ltb, List, [], ◌∷◌, ◌++◌, length, Option, sym, refl, ap, ◌∙◌, subst, arith, lt→ltb, length-append}
 use Rattle.script.specs.declared.ending.Ending.{Ending}
 use Rattle.script.specs.declared.ending.Ending.TheVariants.{Done, NoFuel, TooDeep, NoSuchBay, CannotHold}
-use Rattle.syntax.specs.Syntax.{global_names}
 use Rattle.treerun.specs.TreeRun.{State, Outcome, value, returned, ended}
 use Rattle.treerun.specs.TreeRun.{and_then}
 use Rattle.code.specs.declared.instruction.Operation.{Operation}

@@ -1,5 +1,5 @@
 -- The newest binding of a name and the slot that its code names are the same word.
-use Rattle.std.proofs.Common.{◌≡◌, ℕ, ◌+◌, ◌<◌, T, List, [], ◌++◌, length, Some, None, sym, ap, ◌∙◌, append-nil, arith, length-append}
+use Rattle.std.proofs.Common.{◌≡◌, ℕ, ◌+◌, ◌<◌, List, [], ◌++◌, length, Some, None, sym, ap, ◌∙◌, append-nil, arith, length-append}
 use Rattle.syntax.specs.Syntax.{locate}
 use Rattle.treerun.specs.TreeRun.{look_up, store}
 use Rattle.agreement.proofs.Scene.{Scene}

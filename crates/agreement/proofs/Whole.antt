@@ -4,7 +4,7 @@ use Rattle.std.specs.List.{slice_get}
 use Rattle.script.specs.declared.ending.Ending.{Ending}
 use Rattle.script.specs.declared.ending.Ending.TheVariants.{Done}
 use Rattle.syntax.specs.Syntax.{Statement}
-use Rattle.syntax.specs.Syntax.{Function, global_names}
+use Rattle.syntax.specs.Syntax.{Function}
 use Rattle.names.specs.Need.{need_statement}
 use Rattle.treerun.specs.TreeRun.{State, Outcome, value, returned, ended, oldest}
 use Rattle.treerun.specs.TreeRun.{clocked, run_main}

@@ -1,4 +1,6 @@
 // The agreement of the machine's run of a program's code with the tree run of the program.
+#![tactic(auto)]
+
 ghost use Rattle.std.specs.Prelude.{◌≡◌, ◌+◌, ◌*◌, Bool};
 ghost use Rattle.agreement.specs.Agreement.{Agreement};
 ghost use Rattle.code.specs.Scheme.{global_count};

@@ -1,4 +1,6 @@
 // Makes the calls of a job on a cell; with an argument it checks or walks a node table instead.
+#![tactic(auto)]
+
 mod console;
 mod listing;
 mod outline;

@@ -1,4 +1,6 @@
 // The worked cases of the whole product, proved together.
+#![tactic(auto)]
+
 ghost use Rattle.std.specs.Prelude.{◌≡◌, [], ◌∷◌};
 ghost use Rattle.cases.specs.CellCases.{CellCases, end_bay_seen};
 ghost use Rattle.cases.specs.WorkedCases.{WorkedCases};

@@ -1,5 +1,5 @@
 -- The two calls that set the machine going: an arm begins a run, and a run goes on where the machine stands.
-use Rattle.std.proofs.Common.{◌≡◌, ℕ, suc, ◌+◌, ◌-◌, ◌*◌, ◌^◌, ◌≤◌, min, Bool, true, false, ◌&&◌, leb, ◌⊎◌, List, [], length, ℤ, Some, None, Ok, Err, Option, Result, sym, refl, ap, ◌∙◌, subst, inl, inr, add-suc, zero-add, add-one, arith, leb-true}
+use Rattle.std.proofs.Common.{◌≡◌, ℕ, suc, ◌+◌, ◌*◌, ◌≤◌, Bool, true, false, ◌&&◌, leb, List, [], length, ℤ, Some, None, Ok, Err, Option, Result, sym, refl, ap, ◌∙◌, subst, inl, inr, add-suc, zero-add, arith, leb-true}
 use lib.ListN.{length-map}
 use Rattle.kinds.specs.Kinds.{Kind}
 use Rattle.script.specs.declared.refusal.Refusal.{Refusal}
@@ -8,20 +8,20 @@ use Rattle.syntax.specs.Syntax.{Program, globals_of}
 use Rattle.syntax.specs.Typed.{program_of}
 use Rattle.names.specs.Need.{largest_need}
 use Rattle.names.specs.Names.{unless, ◌⨟◌}
-use Rattle.code.specs.Scheme.{program_code, function_entries, number_of, global_numbers, global_count}
+use Rattle.code.specs.Scheme.{number_of, global_numbers, global_count}
 use Rattle.machine.specs.declared.state.RunEnd.{RunEnd}
-use Rattle.machine.specs.Machine.{Image, MachineState, Progress, running, over, undefined, step, proceed, run, armed}
-use Rattle.machine.specs.Budget.{Ran, run_at_most}
+use Rattle.machine.specs.Machine.{Image, MachineState, Progress, running, undefined, step, proceed, run, armed}
+use Rattle.machine.specs.Budget.{run_at_most}
 use Rattle.machine.proofs.Runs.{run-add}
 use Rattle.machine.proofs.Budgets.{Tells, tells}
 use Rattle.agreement.specs.Agreement.{program_image, Ends}
 use Rattle.agreement.proofs.Agreed.{agreement}
 use Rattle.agreement.proofs.Pieces.{never-undefined}
-use Rattle.cell.specs.Outcomes.{Shown, World, Effect, machine_in, counted, image_in, globals_told, words_wanted, words_suffice}
+use Rattle.cell.specs.Outcomes.{Shown, World, machine_in, counted, image_in, globals_told, words_wanted, words_suffice}
 use Rattle.cell.specs.Outcomes.{arms, arm_rules, armed_by, run_state, ran_to, ran_by}
 use Rattle.cell.specs.declared.calls.State.{State}
 use Rattle.cell.specs.Promises.{Armed, Notes, grant, tree_run}
-use Rattle.cell.proofs.Standing.{HasCode, Begun, GoesOn, HasEnded, start, image_of, start_of, Stands, StandsIn}
+use Rattle.cell.proofs.Standing.{HasCode, Begun, GoesOn, image_of, start_of, Stands, StandsIn}
 
 -- ---- what the cell keeps is what the program says
 

@@ -1,9 +1,9 @@
 -- The machine's run in the code is the run with a budget.
-use Rattle.std.proofs.Common.{◌≡◌, ℕ, zero, suc, ◌+◌, ◌⊎◌, Some, None, Option, sym, refl, ap, ◌∙◌, subst, inl, inr, add-zero, zero-add, arith}
+use Rattle.std.proofs.Common.{◌≡◌, ℕ, zero, suc, ◌+◌, Some, None, Option, sym, refl, ap, ◌∙◌, add-zero, zero-add, arith}
 use Rattle.machine.specs.declared.outcome.Step.{Step}
 use Rattle.machine.specs.declared.state.RunEnd.{RunEnd}
 use Rattle.machine.specs.Machine.{Image, MachineState, Progress, running, over, undefined, step, proceed, run}
-use Rattle.machine.specs.Budget.{Ran, after_one, run_at_most}
+use Rattle.machine.specs.Budget.{after_one, run_at_most}
 use Rattle.machine.specs.Steps.{answer_of, state_after, steps_made, count_from, Ran as RanInCode}
 use Rattle.machine.proofs.Budgets.{Tells, tells}
 use Rattle.cell.specs.Endings.{end_of}

@@ -12,7 +12,7 @@ use Rattle.cell.specs.declared.calls.State.{State}
 use Rattle.cell.specs.declared.calls.State.TheVariants.{Empty, Loaded, Coded, Running, Over}
 use Rattle.cell.specs.declared.calls.Call.{Call}
 use Rattle.cell.specs.declared.calls.Call.TheVariants.{Load, Compile, Arm, Run, Stop}
-use Rattle.cell.specs.Outcomes.{Shown, World, Effect, effect, answer_of, world_after, outcomes, with_code}
+use Rattle.cell.specs.Outcomes.{World, Effect, effect, answer_of, world_after, outcomes, with_code}
 use Rattle.cell.specs.Outcomes.{words_wanted, arm_rules, run_rules, armed_by, ran_by}
 use Rattle.cell.specs.Promises.{Notes, note_taken, note, notes_from}
 use Rattle.cell.proofs.Standing.{HasCode, Stands, StandsIn}

@@ -1,22 +1,19 @@
 -- A run of the machine in the code is the call of the definition.
-use Rattle.std.proofs.Common.{◌≡◌, ℕ, ◌+◌, ◌<◌, ◌≤◌, Bool, true, false, leb, List, length, Ok, Err, Option, Result, sym, refl, ap, ◌∙◌, subst, le-leb}
+use Rattle.std.proofs.Common.{◌≡◌, ℕ, ◌<◌, ◌≤◌, Bool, true, false, leb, length, Ok, Err, Result, sym, refl, ap, ◌∙◌, subst, le-leb}
 use borrow.Author.Tests.{lt-leb}
 use Rattle.kinds.specs.Kinds.{Kind}
 use Rattle.script.specs.declared.refusal.Refusal.{Refusal}
 use Rattle.script.specs.declared.refusal.Refusal.TheVariants.{TooFewWords}
 use Rattle.names.specs.Passes.{outcome as provided}
 use Rattle.machine.specs.declared.outcome.Step.{Step}
-use Rattle.machine.specs.declared.state.RunEnd.{RunEnd}
 use Rattle.machine.specs.Machine.{Image, MachineState}
-use Rattle.machine.specs.Budget.{Ran, run_at_most}
+use Rattle.machine.specs.Budget.{Ran}
 use Rattle.machine.specs.Steps.{Ran as RanInCode}
-use Rattle.cell.specs.declared.calls.State.{State}
 use Rattle.cell.specs.declared.calls.State.TheVariants.{Running}
 use Rattle.cell.specs.declared.calls.Call.TheVariants.{Run}
-use Rattle.cell.specs.declared.calls.Answer.{Answer}
 use Rattle.cell.specs.Endings.{end_of}
 use Rattle.cell.specs.Outcomes.{World, Effect, effect, answer_of, world_after, machine_in, image_in, words_wanted}
-use Rattle.cell.specs.Outcomes.{words_suffice, run_rules, ran_to, ran_by, run_answer}
+use Rattle.cell.specs.Outcomes.{run_rules, ran_to, ran_by, run_answer}
 use Rattle.cell.specs.Promises.{Made}
 use Rattle.cell.proofs.Budgeted.{ran-is}
 

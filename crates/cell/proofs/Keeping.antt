@@ -1,5 +1,5 @@
 -- What stands after a list of calls keeps the promises.
-use Rattle.std.proofs.Common.{◌≡◌, ℕ, suc, ◌+◌, ◌-◌, ◌*◌, ◌^◌, ◌≤◌, Bool, List, [], length, get_or, take, Some, None, Option, sym, refl, ap, ◌∙◌, subst, arith}
+use Rattle.std.proofs.Common.{◌≡◌, ℕ, suc, ◌+◌, ◌-◌, ◌*◌, ◌^◌, ◌≤◌, Bool, List, length, get_or, take, Some, None, Option, sym, refl, ap, ◌∙◌, subst, arith}
 use native.Mathlib.Nat.{min-le_left}
 use Rattle.kinds.specs.Kinds.{Kind}
 use Rattle.kinds.specs.Words.{zero_word}
@@ -7,15 +7,14 @@ use Rattle.syntax.specs.Typed.{program_of}
 use Rattle.code.specs.Scheme.{program_code}
 use Rattle.code.specs.declared.instruction.Instruction.{Instruction}
 use Rattle.machine.specs.declared.state.RunEnd.{RunEnd}
-use Rattle.machine.specs.Machine.{MachineState, running, over, run}
 use Rattle.treerun.specs.Report.{Report}
-use Rattle.agreement.specs.Agreement.{answer_at, machine_report, Ends}
+use Rattle.agreement.specs.Agreement.{answer_at, Ends}
 use Rattle.agreement.proofs.Pieces.{running-bounded, last-bounded, over-reports, enough}
 use Rattle.cell.specs.declared.calls.State.{State}
 use Rattle.cell.specs.declared.calls.State.TheVariants.{Empty, Loaded, Coded, Running, Over}
 use Rattle.cell.specs.Outcomes.{World, machine_in, counted, in_run, code_in, end_in, code_told, ticks_told, steps_told, end_told}
 use Rattle.cell.specs.Promises.{Armed, Notes, nothing, seen, tree_run, Kept, Promises}
-use Rattle.cell.proofs.Standing.{HasCode, Begun, GoesOn, HasEnded, image_of, start_of, StandsIn}
+use Rattle.cell.proofs.Standing.{Begun, GoesOn, HasEnded, image_of, start_of, StandsIn}
 use Rattle.cell.proofs.ArmAndRun.{globals-are, ends}
 use Rattle.cell.proofs.CallByCall.{keeps-all}
 

@@ -8,7 +8,6 @@ use Rattle.syntax.specs.Typed.{program_of}
 use Rattle.treerun.specs.Report.{Report, report_of}
 use Rattle.machine.specs.declared.state.RunEnd.{RunEnd}
 use Rattle.agreement.specs.Agreement.{answer_at}
-use Rattle.cell.specs.declared.calls.State.{State}
 use Rattle.cell.specs.declared.calls.State.TheVariants.{Empty, Over}
 use Rattle.cell.specs.declared.calls.Call.{Call}
 use Rattle.cell.specs.declared.calls.Call.TheVariants.{Load, Compile, Arm, Run, Stop}

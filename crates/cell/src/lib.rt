@@ -1,4 +1,6 @@
 // The cell: it keeps a table, makes its code and runs it over lent words and a rack.
+#![tactic(auto)]
+
 pub mod arming;
 pub mod calls;
 pub mod loading;

@@ -6,7 +6,6 @@ use Rattle.syntax.specs.Typed.{program_of}
 use Rattle.code.specs.declared.instruction.Operation.TheVariants.{Lit, GetG, SetG, Add, Sub, Gt, Pop}
 use Rattle.code.specs.declared.instruction.Operation.TheVariants.{Jz, Jmp, Tick, Call, Ret, BayW, Halt}
 use Rattle.code.specs.declared.instruction.Instruction.{Instruction}
-use Rattle.code.specs.declared.instruction.FunctionEntry.{FunctionEntry}
 use Rattle.code.specs.Instructions.{operation_number, operation_argument}
 use Rattle.code.specs.Scheme.{op, program_code, function_entries}
 

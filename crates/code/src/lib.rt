@@ -1,3 +1,5 @@
 // Stack code: instructions and the code scheme.
+#![tactic(auto)]
+
 pub mod cases;
 pub mod instruction;

@@ -1,5 +1,5 @@
 -- What the code tests of a float to take it as a whole number is the definition's test.
-use Rattle.std.proofs.Common.{◌≡◌, ℕ, ◌+◌, ◌*◌, ◌/◌, ◌%◌, ◌<◌, ◌≤◌, min, Bool, true, false, cond, not, ◌&&◌, ◌||◌, eqb, leb, ◌⊎◌, ℤ, pos, Some, None, Option, sym, refl, ap, ◌∙◌, inl, inr, mul-pos, div-add-mod', zero-mul, mul-one, mul_right_comm, mul-div_cancel, arith}
+use Rattle.std.proofs.Common.{◌≡◌, ℕ, ◌+◌, ◌*◌, ◌/◌, ◌%◌, ◌<◌, ◌≤◌, min, Bool, true, false, cond, ◌&&◌, eqb, leb, ◌⊎◌, ℤ, pos, Some, None, Option, sym, refl, ap, ◌∙◌, inl, inr, mul-pos, div-add-mod', zero-mul, mul-one, mul_right_comm, mul-div_cancel, arith}
 use native.Mathlib.Nat.{zero-mod, zero-div, mul-mod_left, eq_of_mul-eq-mul_right}
 use lib.Ieee.{Float, nan, inf, fin, binary64, up, down, eq, of_int, to_unsigned, level}
 use lib.Ieee.Exact.{HasValue}

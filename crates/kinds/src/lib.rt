@@ -1,4 +1,6 @@
 // Number kinds: what a word of a script, its word store and its bays is.
+#![tactic(auto)]
+
 pub mod counter;
 pub mod facts;
 pub mod rail;

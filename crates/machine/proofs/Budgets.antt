@@ -1,8 +1,8 @@
 -- A run with a budget is the run of as many steps as it made; in pieces it is the run at once.
-use Rattle.std.proofs.Common.{◌≡◌, ℕ, zero, suc, ◌+◌, ◌<◌, ◌≤◌, ◌⊎◌, Some, None, Option, sym, refl, ap, ◌∙◌, subst, inl, inr, suc-add, zero-add, arith}
+use Rattle.std.proofs.Common.{◌≡◌, ℕ, zero, suc, ◌+◌, ◌<◌, ◌≤◌, ◌⊎◌, Some, None, Option, sym, refl, ap, ◌∙◌, inl, inr, suc-add, zero-add, arith}
 use Rattle.machine.specs.declared.state.RunEnd.{RunEnd}
 use Rattle.machine.specs.Machine.{Image, MachineState, Progress, running, over, undefined, step, proceed, run}
-use Rattle.machine.specs.Budget.{Ran, after_one, run_at_most, resumed_by, resumed}
+use Rattle.machine.specs.Budget.{after_one, run_at_most, resumed}
 
 module _ {W : Type 0} (I : Image W) where
   -- From m, after `made` steps and with n more allowed: `count` steps were made, and the run is over, or it still runs

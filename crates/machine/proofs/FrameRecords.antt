@@ -1,5 +1,5 @@
 -- Calls and returns, by the frame records of the open calls.
-use Rattle.std.proofs.Common.{◌≡◌, ℕ, zero, suc, ◌+◌, ◌-◌, ◌<◌, ◌≤◌, Bool, true, false, ltb, ◌⊎◌, List, [], ◌∷◌, ◌++◌, reverse, length, get_or, take, set, Some, None, Option, sym, refl, ap, ◌∙◌, inl, inr, add-one, arith}
+use Rattle.std.proofs.Common.{◌≡◌, ℕ, zero, suc, ◌+◌, ◌-◌, ◌<◌, ◌≤◌, Bool, true, false, ltb, List, [], ◌∷◌, reverse, length, get_or, take, set, Some, None, Option, sym, refl, ap, ◌∙◌, inl, inr, add-one, arith}
 use Rattle.std.specs.List.{slice_get}
 use Rattle.std.proofs.lemmas.List.{take_more, take_more_set, reverse-append, length-reverse, length-take-le}
 use Rattle.std.proofs.lemmas.Option.{slice_get-get_or, slice_get_past}
@@ -11,8 +11,8 @@ use Rattle.code.specs.declared.instruction.Operation.TheVariants.{Call, Ret}
 use Rattle.code.specs.declared.instruction.FunctionEntry.{FunctionEntry}
 use Rattle.machine.specs.declared.state.Frame.{Frame}
 use Rattle.machine.specs.declared.state.Machine.{Machine}
-use Rattle.machine.specs.Machine.{Image, MachineState, Progress, running, over, undefined, execute, state_of}
-use Rattle.machine.specs.Machine.{call_function, call_within, spend_fuel_from, enter_function, return_into, word_at}
+use Rattle.machine.specs.Machine.{Image, MachineState, Progress, running, over, execute, state_of}
+use Rattle.machine.specs.Machine.{call_function, call_within, spend_fuel_from, enter_function, return_into}
 use Rattle.machine.specs.Steps.{refused_by}
 use Rattle.machine.proofs.Steps.{at_most, pop-one}
 

@@ -8,7 +8,7 @@ use Rattle.machine.specs.declared.outcome.Step.{Step}
 use Rattle.machine.specs.declared.outcome.Step.TheVariants.{Running, Over, Undefined}
 use Rattle.machine.specs.declared.state.Machine.{Machine}
 use Rattle.machine.specs.Machine.{Image, MachineState, Progress, running, over, undefined, step, proceed, run}
-use Rattle.machine.specs.Machine.{state_of, image_of}
+use Rattle.machine.specs.Machine.{image_of}
 use Rattle.machine.specs.Steps.{answer_of, state_after, count_from, steps_made, Ran, steps_after, InPieces}
 
 -- ---- an answer and a state tell the progress

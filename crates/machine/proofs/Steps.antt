@@ -1,5 +1,5 @@
 -- What shows that an instruction's code makes it: the instruction's progress, worked out where a test came out one way.
-use Rattle.std.proofs.Common.{◌≡◌, ℕ, suc, ◌-◌, ◌<◌, ◌≤◌, leb, List, sym, refl, ap, ◌∙◌, arith}
+use Rattle.std.proofs.Common.{◌≡◌, ℕ, suc, ◌-◌, ◌<◌, ◌≤◌, leb, List, sym, ap, ◌∙◌, arith}
 use Rattle.std.proofs.lemmas.Bool.{le-leb}
 use Rattle.script.specs.declared.ending.Ending.{Ending}
 use Rattle.machine.specs.declared.state.Machine.{Machine}

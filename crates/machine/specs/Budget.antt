@@ -1,5 +1,5 @@
 -- A run with a budget of steps: what it leaves, and how many steps it made.
-use Rattle.std.specs.Prelude.{◌≡◌, ℕ, zero, suc, Some, None, Option}
+use Rattle.std.specs.Prelude.{ℕ, zero, suc, Some, None, Option}
 use Rattle.machine.specs.declared.state.RunEnd.{RunEnd}
 use Rattle.machine.specs.Machine.{Image, MachineState, Progress, running, over, undefined, step}
 

@@ -3,9 +3,7 @@ use Rattle.std.specs.Prelude.{◌≡◌, ℕ, zero, suc, ◌+◌, ◌-◌, Bool,
 use Rattle.code.specs.declared.instruction.FunctionEntry.{FunctionEntry}
 use Rattle.kinds.specs.Kinds.{Kind}
 use Rattle.racks.specs.declared.rack.BayFault.{BayFault}
-use Rattle.racks.specs.declared.rack.BayFault.TheVariants as BayFault
 use Rattle.script.specs.declared.ending.Ending.{Ending}
-use Rattle.script.specs.declared.ending.Ending.TheVariants as Ending
 use Rattle.machine.specs.declared.outcome.Step.{Step}
 use Rattle.machine.specs.declared.outcome.Step.TheVariants.{Running, Over, Undefined}
 use Rattle.machine.specs.declared.state.Machine.{Machine}

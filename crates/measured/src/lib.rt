@@ -1,4 +1,6 @@
 // One fixed script on the machine, to be called from outside: bench/ measures it.
+#![tactic(auto)]
+
 use code::instruction::{Instruction, Operation};
 use machine::state::Machine;
 use racks::BayTable;

@@ -1,14 +1,14 @@
 -- The rules of the global declarations, one declaration after another.
-use Rattle.std.proofs.Common.{◌≡◌, ℕ, ◌+◌, max, Bool, true, false, not, List, [], ◌∷◌, ◌++◌, map, reverse, length, ℤ, is_some, IfOk, Ok, Err, Option, Result, sym, refl, ap, ◌∙◌, append_assoc, arith}
+use Rattle.std.proofs.Common.{◌≡◌, ℕ, ◌+◌, max, true, false, not, List, [], ◌∷◌, ◌++◌, map, reverse, length, ℤ, is_some, IfOk, Ok, Err, Option, Result, sym, refl, ap, ◌∙◌, append_assoc, arith}
 use Rattle.std.proofs.lemmas.List.{reverse-append}
 use Rattle.script.specs.declared.refusal.Refusal.{Refusal}
 use Rattle.script.specs.declared.refusal.Refusal.TheVariants.{DeclaredTwice}
-use Rattle.syntax.specs.Syntax.{VariableDeclaration, declare, Declaration, of_a_variable, of_a_function, Function, name_of}
+use Rattle.syntax.specs.Syntax.{declare, Declaration, of_a_variable, of_a_function, Function, name_of}
 use Rattle.syntax.specs.Syntax.{variables_of, functions_of, locate}
 use Rattle.names.specs.declared.frame.Measured.{Measured}
 use Rattle.names.specs.declared.signature.Signature.{Signature}
 use Rattle.names.specs.Need.{need_functions, need_statement}
-use Rattle.names.specs.Names.{Answer, unless, ◌⨟◌, global_rules, is_function, signature}
+use Rattle.names.specs.Names.{unless, global_rules, is_function, signature}
 use Rattle.names.specs.Passes.{outcome}
 use Rattle.names.proofs.Outcomes.{twice, went, refused-after}
 

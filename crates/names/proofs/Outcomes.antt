@@ -1,6 +1,6 @@
 -- An answer of the rules to one who goes on with a value: the first refusal stands, and past an answer that is fine
 -- the next one counts.
-use Rattle.std.proofs.Common.{◌≡◌, ℕ, Bool, true, not, Ok, Err, Result, sym, refl, ap, ◌∙◌, arith}
+use Rattle.std.proofs.Common.{◌≡◌, ℕ, Bool, true, not, Ok, Err, Result, refl, ap, arith}
 use Rattle.script.specs.declared.refusal.Refusal.{Refusal}
 use Rattle.names.specs.Names.{Answer, ◌⨟◌, unless}
 use Rattle.names.specs.Passes.{outcome}

@@ -1,5 +1,5 @@
 -- The rules of a whole program, one pass after another.
-use Rattle.std.proofs.Common.{◌≡◌, ℕ, leb, List, [], ◌∷◌, ◌++◌, map, reverse, Ok, Err, Result, sym, refl, ap, ◌∙◌}
+use Rattle.std.proofs.Common.{◌≡◌, ℕ, leb, List, [], ◌++◌, map, reverse, Ok, Err, refl, ap, ◌∙◌}
 use Rattle.script.specs.declared.refusal.Refusal.{Refusal}
 use Rattle.script.specs.declared.refusal.Refusal.TheVariants.{FrameNeed}
 use Rattle.syntax.specs.Syntax.{Program, Declaration, name_of, variables_of, functions_of, globals_of, global_names}
@@ -8,7 +8,7 @@ use Rattle.names.specs.declared.signature.Signature.{Signature}
 use Rattle.names.specs.Need.{largest_need}
 use Rattle.names.specs.Names.{Answer, ◌⨟◌, unless, signature, global_rules, function_rules, statement_rules, name_rules}
 use Rattle.names.specs.Passes.{outcome}
-use Rattle.names.proofs.Outcomes.{refused, refused-after}
+use Rattle.names.proofs.Outcomes.{refused}
 
 -- The global names, oldest first and newest first.
 pub global-names : (p : Program) → reverse (map name_of (globals_of p)) ≡ global_names p

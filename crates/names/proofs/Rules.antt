@@ -4,7 +4,6 @@ use Rattle.script.specs.declared.record.Record.{Record}
 use Rattle.script.specs.declared.refusal.Refusal.TheVariants.{Undeclared}
 use Rattle.script.specs.declared.rows.Sort.TheVariants.{Expression as ExpressionSort}
 use Rattle.script.specs.declared.rows.NodeKind.{NodeKind}
-use Rattle.script.specs.declared.rows.NodeKind.TheVariants as is
 use Rattle.script.specs.Rows.{node_of, suits}
 use Rattle.syntax.specs.Syntax.{Expression, constant, variable, binary, assign, call, bay_read, bay_write, Arguments}
 use Rattle.syntax.specs.Syntax.{argument_count}

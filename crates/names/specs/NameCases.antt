@@ -1,10 +1,8 @@
 -- Worked cases of the rules for names, about their definitions.
-use Rattle.std.specs.Prelude.{◌≡◌, ℕ, zero, suc, List, [], ◌∷◌, ◌++◌, Ok, Err, Result}
+use Rattle.std.specs.Prelude.{◌≡◌, ℕ, zero, suc, List, [], ◌∷◌, ◌++◌, Ok, Err}
 use Rattle.script.specs.declared.record.Record.{Record}
-use Rattle.script.specs.declared.refusal.Refusal.{Refusal}
 use Rattle.script.specs.Refusals.{RefusedWith}
 use Rattle.script.specs.EndBay.{end_bay, node}
-use Rattle.names.specs.declared.summary.Summary.{Summary}
 use Rattle.names.specs.Tables.{table_rules}
 
 -- A table that is refused with this number, telling this.

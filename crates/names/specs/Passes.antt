@@ -1,19 +1,19 @@
 -- What each pass over the records of a table answers: the refusal of the rules, or the index after what it has read.
 -- Names in scope and global names stand oldest first here, as the passes keep them.
-use Rattle.std.specs.Prelude.{ℕ, ◌+◌, List, [], reverse, Ok, Err, Result}
+use Rattle.std.specs.Prelude.{ℕ, ◌+◌, List, reverse, Ok, Err, Result}
 use Rattle.script.specs.declared.record.Record.{Record}
 use Rattle.script.specs.declared.refusal.Refusal.{Refusal}
 use Rattle.script.specs.declared.refusal.Refusal.TheVariants.{Undeclared}
 use Rattle.script.specs.declared.rows.NodeKind.{NodeKind}
 use Rattle.script.specs.declared.rows.NodeKind.TheVariants as is
 use Rattle.syntax.specs.Trees.{tree_at, pieces, size, sizes}
-use Rattle.syntax.specs.Syntax.{functions_of, Program}
+use Rattle.syntax.specs.Syntax.{functions_of}
 use Rattle.syntax.specs.Typed.{expression_at, arguments_at, statement_at, statements_at, variables_at, declarations_at}
-use Rattle.syntax.specs.Typed.{first_parts, program_of}
+use Rattle.syntax.specs.Typed.{first_parts}
 use Rattle.names.specs.declared.signature.Signature.{Signature}
 use Rattle.names.specs.declared.frame.Measured.{Measured}
 use Rattle.names.specs.Need.{need_functions}
-use Rattle.names.specs.Names.{Answer, ◌⨟◌, global_rules, function_rules, unless, declared, call_rule, expression_rules}
+use Rattle.names.specs.Names.{Answer, global_rules, function_rules, unless, declared, call_rule, expression_rules}
 use Rattle.names.specs.Names.{argument_rules, local_rules, statement_rules, block_rules}
 
 -- An answer to one who goes on with a value.

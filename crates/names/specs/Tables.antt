@@ -4,7 +4,7 @@ use Rattle.script.specs.declared.record.Record.{Record}
 use Rattle.script.specs.declared.refusal.Refusal.{Refusal}
 use Rattle.script.specs.Sequence.{and_then}
 use Rattle.script.specs.Shape.{shape}
-use Rattle.syntax.specs.Syntax.{Program, functions_of, globals_of}
+use Rattle.syntax.specs.Syntax.{functions_of, globals_of}
 use Rattle.syntax.specs.Trees.{pieces, sizes, no_record}
 use Rattle.syntax.specs.Typed.{program_of}
 use Rattle.names.specs.declared.summary.Summary.{Summary}

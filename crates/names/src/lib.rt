@@ -1,4 +1,6 @@
 // The rules for names, and the frame need.
+#![tactic(auto)]
+
 pub mod check;
 mod expressions;
 pub mod find;

@@ -2,7 +2,7 @@
 use Rattle.std.proofs.Common.{◌≡◌, ℕ, Bool, List, ◌++◌, take, drop, Result, sym, ap, ◌∙◌, take-append-drop}
 use Rattle.std.specs.List.{slice_get}
 use Rattle.racks.specs.declared.rack.BayFault.{BayFault}
-use Rattle.racks.specs.Loans.{Loan, lent}
+use Rattle.racks.specs.Loans.{lent}
 use Rattle.racks.specs.Writes.{copy_answer, copied}
 
 -- the rack kept the list that was lent

@@ -1,5 +1,5 @@
 -- Bits packed 64 to a word: what setting and clearing one leaves of the bays.
-use Rattle.std.proofs.Common.{◌≡◌, ℕ, zero, suc, ◌+◌, ◌-◌, ◌*◌, ◌/◌, ◌%◌, ◌^◌, ◌<◌, ◌≤◌, min, max, ◌≢◌, ◌⊎◌, List, map, length, get_or, set, replicate, ℤ, pos, sym, refl, ap, ◌∙◌, subst, inl, inr, add-mul, arith, length-set, get_or-set_other, get_or-set_same, ext_get_or, pow_pos, pow-add}
+use Rattle.std.proofs.Common.{◌≡◌, ℕ, suc, ◌+◌, ◌-◌, ◌*◌, ◌/◌, ◌%◌, ◌^◌, ◌<◌, ◌≤◌, min, max, ◌≢◌, ◌⊎◌, List, map, length, get_or, set, replicate, pos, sym, ap, ◌∙◌, subst, inl, inr, add-mul, arith, length-set, get_or-set_other, get_or-set_same, ext_get_or, pow_pos, pow-add}
 use native.Mathlib.Nat.{div_self, div-eq_of_lt, mul-div_cancel_left, mul-mod_right, pow-succ', zero-div}
 use lib.Bits.{bit_and, bit_or, and_step, or_step, and_shr, or_shr}
 use lib.Pow.{pow-lt}

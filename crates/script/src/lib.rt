@@ -1,4 +1,6 @@
 // Node tables: their records, the table of kinds, and the check of a table's shape.
+#![tactic(auto)]
+
 pub mod ending;
 pub mod examples;
 pub mod record;

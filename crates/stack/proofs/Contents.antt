@@ -1,5 +1,5 @@
 -- What the live words are after a push, and after a cut back to where they were.
-use Rattle.std.proofs.Common.{◌≡◌, ℕ, ◌+◌, ◌<◌, ◌≤◌, List, [], ◌∷◌, ◌++◌, length, take, set, sym, refl, ap, ◌∙◌, arith, length-set, lt-ltb}
+use Rattle.std.proofs.Common.{◌≡◌, ℕ, ◌+◌, ◌<◌, ◌≤◌, [], ◌∷◌, ◌++◌, length, take, set, sym, refl, ap, ◌∙◌, length-set, lt-ltb}
 use Rattle.std.proofs.lemmas.List.{take_more_set, take-take, length-take-le}
 use Rattle.stack.specs.declared.Stack.{Stack}
 use Rattle.stack.specs.Store.{raised, contents, capacity}

@@ -1,5 +1,7 @@
 // A stack of any words that can be copied, over a slice that its owner lends.
 // Every method is total: what lies outside the store is not read or written. A popped word stays until overwritten.
+#![tactic(auto)]
+
 ghost use Rattle.std.specs.Prelude.{◌≡◌, ◌+◌, ◌-◌, length, slice_index_or, slice_set};
 ghost use Rattle.stack.specs.Store.{raised, contents};
 

@@ -1,5 +1,5 @@
 -- A table that the shape check takes spells sound trees.
-use Rattle.std.proofs.Common.{◌≡◌, ℕ, zero, suc, ◌+◌, ◌<◌, ◌≤◌, Bool, true, false, cond, List, [], ◌∷◌, ◌++◌, length, drop, Ok, Err, Result, sym, refl, ap, ◌∙◌, subst, add-zero, suc-add, zero-add, arith, length-append}
+use Rattle.std.proofs.Common.{◌≡◌, ℕ, suc, ◌+◌, Bool, true, false, cond, List, [], ◌∷◌, ◌++◌, length, Ok, Err, Result, sym, refl, ap, ◌∙◌, subst, add-zero, zero-add, arith}
 use Rattle.script.specs.declared.record.Record.{Record}
 use Rattle.script.specs.declared.refusal.Refusal.{Refusal}
 use Rattle.script.specs.declared.refusal.Refusal.TheVariants.{FieldOutOfBounds, UnexpectedKind}
@@ -9,7 +9,7 @@ use Rattle.script.specs.Rows.{row_of, suits}
 use Rattle.script.specs.Rows.{wants}
 use Rattle.script.specs.Sequence.{and_then}
 use Rattle.script.specs.Shape.{fitting, fields, consume}
-use Rattle.syntax.specs.Trees.{Tree, Forest, node, none, more, taken, left, arity, forest, size, sizes, Sound, Sounds}
+use Rattle.syntax.specs.Trees.{Forest, none, more, taken, left, forest, sizes, Sounds}
 
 -- a record that fits has its own row
 own_row : (w : Sort) (r : Record) (at : ℕ) (row : Row) → fitting w r at ≡ Ok row → row ≡ row_of r.kind

@@ -6,7 +6,6 @@ use Rattle.script.specs.declared.rows.Row.{Row}
 use Rattle.script.specs.declared.rows.Sort.{Sort}
 use Rattle.script.specs.declared.rows.Sort.TheVariants.{Expression as ExpressionSort}
 use Rattle.script.specs.declared.rows.NodeKind.{NodeKind}
-use Rattle.script.specs.declared.rows.NodeKind.TheVariants as is
 use Rattle.script.specs.Rows.{row_of, node_of, amount, suits}
 use Rattle.script.specs.Rows.{wants}
 use Rattle.syntax.specs.Syntax.{Expression, constant, variable, binary, assign, call, bay_read, bay_write}

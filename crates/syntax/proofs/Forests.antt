@@ -1,10 +1,9 @@
 -- The laws of a table's trees that every pass over its records follows: the tree at an index, the trees after it,
 -- and that they end within the table.
-use Rattle.std.proofs.Common.{◌≡◌, ℕ, zero, suc, ◌+◌, ◌-◌, ◌<◌, ◌≤◌, List, [], ◌∷◌, length, get_or, drop, sym, refl, ap, ◌∙◌, add-zero, add_assoc, add-suc, suc-add, zero-add, add-one, arith, length-drop, drop-cons, drop-drop}
-use Rattle.std.proofs.lemmas.List.{drop_all}
+use Rattle.std.proofs.Common.{◌≡◌, ℕ, zero, suc, ◌+◌, ◌<◌, ◌≤◌, List, [], ◌∷◌, length, get_or, drop, sym, refl, ap, ◌∙◌, add-zero, add_assoc, add-suc, suc-add, zero-add, add-one, arith, length-drop, drop-cons, drop-drop}
 use Rattle.script.specs.declared.record.Record.{Record}
 use Rattle.script.specs.declared.rows.Sort.{Sort}
-use Rattle.syntax.specs.Trees.{Tree, Forest, node, none, more, taken, left, arity, forest, size, sizes, pieces, tree_at, head, Sound, Sounds}
+use Rattle.syntax.specs.Trees.{Forest, node, none, more, taken, left, arity, forest, size, sizes, pieces, tree_at, head, Sound, Sounds}
 
 taken_none : (n : ℕ) → taken n none ≡ none
 taken_none zero = refl

@@ -1,21 +1,16 @@
 -- The prefix listing of a program with every field in its bounds is accepted by the shape check.
-use Rattle.std.proofs.Common.{◌≡◌, ℕ, zero, suc, ◌+◌, ◌<◌, ◌≤◌, Bool, true, false, cond, eqb, ltb, List, [], ◌∷◌, ◌++◌, length, replicate, pos, Ok, Err, Result, sym, refl, ap, ◌∙◌, subst, append_assoc, append-nil, add-zero, arith, length-append}
+use Rattle.std.proofs.Common.{◌≡◌, ℕ, suc, ◌+◌, ◌≤◌, true, false, eqb, ltb, List, [], ◌∷◌, ◌++◌, length, replicate, pos, Ok, sym, refl, ap, ◌∙◌, subst, append_assoc, append-nil, add-zero, arith, length-append}
 use Rattle.std.proofs.lemmas.Bool.{le-ltb, ne_eqb}
 use Rattle.script.specs.declared.record.Record.{Record}
-use Rattle.script.specs.declared.refusal.Refusal.{Refusal}
-use Rattle.script.specs.declared.refusal.Refusal.TheVariants.{FieldOutOfBounds, UnexpectedKind}
-use Rattle.script.specs.declared.rows.Operator.{Operator}
 use Rattle.script.specs.declared.rows.Operator.TheVariants.{Sum, Difference, Greater}
-use Rattle.script.specs.declared.rows.Row.{Row}
 use Rattle.script.specs.declared.rows.Sort.{Sort}
 use Rattle.script.specs.declared.rows.Sort.TheVariants as sort
 use Rattle.script.specs.Rows.{row_of, suits, wants}
-use Rattle.script.specs.Sequence.{and_then}
-use Rattle.script.specs.Shape.{fields, fitting, consume, complete, shape}
+use Rattle.script.specs.Shape.{fields, consume, shape}
 use Rattle.syntax.specs.Syntax.{VariableDeclaration, declare, Expression, constant, variable, binary, assign, call, bay_read, bay_write}
 use Rattle.syntax.specs.Syntax.{Arguments, no_argument, argument, argument_count, Statement, evaluate, if_else, while, give_back, block}
-use Rattle.syntax.specs.Syntax.{Statements, no_statement, then, Function, Declaration, of_a_variable, of_a_function, Program}
-use Rattle.syntax.specs.Listing.{rec, operator_kind, list_expression, list_arguments, list_variables, list_statement, list_statements}
+use Rattle.syntax.specs.Syntax.{Statements, no_statement, then, Declaration, of_a_variable, of_a_function, Program}
+use Rattle.syntax.specs.Listing.{rec, list_expression, list_arguments, list_variables, list_statement, list_statements}
 use Rattle.syntax.specs.Listing.{statement_count, list_parameters, list_declaration, list_declarations, listing, InBounds, Lists}
 
 bounds-left : (xs ys : List Record) → InBounds (xs ++ ys) → InBounds xs

@@ -1,12 +1,10 @@
 -- A table whose shape is accepted is the prefix listing of its program.
-use Rattle.std.proofs.Common.{◌≡◌, ℕ, zero, suc, ◌+◌, ◌<◌, ◌≤◌, Bool, true, false, cond, ◌&&◌, ◌||◌, T, eqb, ltb, leb, ◌⊎◌, List, [], ◌∷◌, ◌++◌, map, length, get_or, take, replicate, ℤ, pos, negsuc, Ok, Err, Result, sym, refl, ap, ◌∙◌, subst, inl, inr, append_assoc, append-nil, arith, eqb→eq, leb→le, length-append}
+use Rattle.std.proofs.Common.{◌≡◌, ℕ, zero, suc, ◌+◌, ◌≤◌, Bool, true, false, cond, ◌&&◌, ◌||◌, T, eqb, ltb, ◌⊎◌, List, [], ◌∷◌, ◌++◌, map, length, get_or, take, replicate, ℤ, pos, negsuc, Ok, Err, Result, sym, refl, ap, ◌∙◌, subst, inl, inr, append_assoc, append-nil, arith, eqb→eq, leb→le, length-append}
 use Rattle.script.specs.declared.record.Record.{Record}
 use Rattle.script.specs.declared.refusal.Refusal.{Refusal}
 use Rattle.script.specs.declared.refusal.Refusal.TheVariants.{TableSize, FieldOutOfBounds, UnexpectedKind, LeftOver}
 use Rattle.script.specs.declared.rows.Bound.{Bound}
 use Rattle.script.specs.declared.rows.Bound.TheVariants.{Any, UpTo}
-use Rattle.script.specs.declared.rows.Operator.{Operator}
-use Rattle.script.specs.declared.rows.Operator.TheVariants.{Sum, Difference, Greater}
 use Rattle.script.specs.declared.rows.Row.{Row}
 use Rattle.script.specs.declared.rows.Sort.{Sort}
 use Rattle.script.specs.declared.rows.Sort.TheVariants as sort
@@ -18,8 +16,8 @@ use Rattle.script.specs.Shape.{fields, fitting, consume, complete, shape}
 use Rattle.syntax.proofs.Accepted.{accepted}
 use Rattle.std.proofs.lemmas.Bool.{ltb-false}
 use Rattle.syntax.specs.Syntax.{VariableDeclaration, declare, Expression, constant, variable, binary, assign, call, bay_read, bay_write}
-use Rattle.syntax.specs.Syntax.{Arguments, no_argument, argument, argument_count, Statement, evaluate, if_else, while, give_back, block}
-use Rattle.syntax.specs.Syntax.{Statements, no_statement, then, name_of}
+use Rattle.syntax.specs.Syntax.{Arguments, argument_count, Statement, evaluate, if_else, while, give_back, block}
+use Rattle.syntax.specs.Syntax.{name_of}
 use Rattle.syntax.specs.Trees.{Tree, Forest, node, none, more, taken, left, arity, forest, size, sizes, head, tree_at, Sound, Sounds}
 use Rattle.syntax.specs.Typed.{make_expression, expression_of, arguments_of, make_statement, statement_of, statements_of, variables_in, variable_of}
 use Rattle.syntax.specs.Typed.{first_statement, drop_statements, make_declaration, node_kind, declarations_of, program_in, program_of}
@@ -271,9 +269,9 @@ statement-lists (while p e s) n =
 statement-lists (give_back p e) n = ap (λ (l : List Record). rec 19 0 (pos 0) ∷ l) (sym (append-nil (list_expression e)))
 statement-lists (block p ds ss) n = absurd n
 
-own_statement : (p : ℕ) (r : Record) (t : Tree) (us : Forest) (q : NodeKind) → T (suits sort.Statement (row_for q).sort) → (q ≡ is.Block → ⊥) →
+own-statement : (p : ℕ) (r : Record) (t : Tree) (us : Forest) (q : NodeKind) → T (suits sort.Statement (row_for q).sort) → (q ≡ is.Block → ⊥) →
     own_statement (statements.made q p r t us) ≡ record_for q r
-own_statement p r t us =
+own-statement p r t us =
     by-statement (λ q. (q ≡ is.Block → ⊥) → own_statement (statements.made q p r t us) ≡ record_for q r)
     (λ b. refl) (λ b. refl) (λ b. refl) (λ b. refl) (λ b. absurd (b refl))
 
@@ -330,7 +328,7 @@ mutual
       let e : list_expression (test_of (statements.made q p r t us)) ≡ records t = ap list_expression u.test ∙ lists-expression t s.0 in
       let f : list_statements (bodies_of (statements.made q p r t us)) ≡ records_all us =
       ap list_statements u.bodies ∙ lists-statements us (amount (row_for q).second.count r) s.1 in
-      let o : own_statement (statements.made q p r t us) ≡ r = own_statement p r t us q i b ∙ sym own in
+      let o : own_statement (statements.made q p r t us) ≡ r = own-statement p r t us q i b ∙ sym own in
       statement-lists (statements.made q p r t us) u.plain ∙ (λ j. o j ∷ (e j ++ f j))
 
   lists-statements : (ts : Forest) (n : ℕ) → Sounds ts (replicate n sort.Statement) → list_statements (statements_of ts) ≡ records_all ts

@@ -1,5 +1,5 @@
 -- The row of each kind of record, and the kinds that may stand where a sort is wanted.
-use Rattle.std.proofs.Common.{◌≡◌, ℕ, zero, suc, Bool, true, false, cond, T, List, [], ◌∷◌, map, get_or, Ok, Err, sym, refl, ap, ◌∙◌, subst, arith}
+use Rattle.std.proofs.Common.{◌≡◌, ℕ, zero, suc, Bool, true, false, cond, T, List, [], ◌∷◌, map, get_or, Ok, Err, refl, subst, arith}
 use Rattle.script.specs.declared.record.Record.{Record}
 use Rattle.script.specs.declared.refusal.Refusal.TheVariants.{FieldOutOfBounds, UnexpectedKind}
 use Rattle.script.specs.declared.rows.Row.{Row}

@@ -1,13 +1,13 @@
 -- The parts of each kind of statement by name: an expression statement, a return, an if and a while.
-use Rattle.std.proofs.Common.{◌≡◌, ℕ, suc, ◌+◌, ◌<◌, ◌≤◌, T, List, [], ◌∷◌, length, get_or, sym, refl, ap, ◌∙◌, arith}
+use Rattle.std.proofs.Common.{◌≡◌, ℕ, suc, ◌+◌, ◌<◌, T, List, [], ◌∷◌, length, get_or, refl, ap, ◌∙◌, arith}
 use Rattle.script.specs.declared.record.Record.{Record}
 use Rattle.script.specs.declared.rows.Sort.TheVariants.{Expression as ExpressionSort, Statement as StatementSort}
 use Rattle.script.specs.declared.rows.NodeKind.{NodeKind}
 use Rattle.script.specs.declared.rows.NodeKind.TheVariants as is
-use Rattle.script.specs.Rows.{node_of, suits}
+use Rattle.script.specs.Rows.{suits}
 use Rattle.script.specs.Rows.{wants}
-use Rattle.syntax.specs.Syntax.{Statement, evaluate, if_else, while, give_back}
-use Rattle.syntax.specs.Trees.{Tree, Forest, node, none, more, arity, size, sizes, pieces, tree_at, Sound, no_record}
+use Rattle.syntax.specs.Syntax.{evaluate, if_else, while, give_back}
+use Rattle.syntax.specs.Trees.{Forest, node, none, more, arity, size, pieces, tree_at, Sound, no_record}
 use Rattle.syntax.specs.Typed.{make_statement, arguments_of, variables_in, statement_of, statements_of, expression_at, statement_at, node_at}
 use Rattle.syntax.proofs.NodeKinds.{row_for, suited, by-statement}
 use Rattle.syntax.proofs.Forests.{here, next, first-sound}

@@ -14,7 +14,7 @@ use Rattle.syntax.specs.Syntax.{VariableDeclaration, declare, Expression, Statem
 use Rattle.syntax.specs.Syntax.{Statements, no_statement, then, name_of, bind_names}
 use Rattle.syntax.specs.Trees.{Tree, Forest, node, none, more, arity, size, sizes, pieces, tree_at, forest, Sound, Sounds, Leaves}
 use Rattle.syntax.specs.Typed.{make_statement, expression_of, arguments_of, statement_of, statements_of, variables_in, variable_of}
-use Rattle.syntax.specs.Typed.{first_statement, drop_statements, no_expression, expression_at, statement_at, statements_at, variables_at, first_parts, second_parts}
+use Rattle.syntax.specs.Typed.{first_statement, drop_statements, no_expression, expression_at, statement_at, statements_at, variables_at, second_parts}
 use Rattle.syntax.proofs.NodeKinds.{row_for, row_is, suited, by-statement, Only, only-variable, only-parameter}
 use Rattle.syntax.proofs.Forests.{here, next, long, first-sound}
 use Rattle.syntax.proofs.Expressions.{some_size}

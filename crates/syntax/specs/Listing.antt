@@ -7,7 +7,7 @@ use Rattle.script.specs.Rows.{row_of}
 use Rattle.script.specs.Shape.{fields, shape}
 use Rattle.syntax.specs.Syntax.{VariableDeclaration, declare, Expression, constant, variable, binary, assign, call, bay_read, bay_write}
 use Rattle.syntax.specs.Syntax.{Arguments, no_argument, argument, argument_count, Statement, evaluate, if_else, while, give_back, block}
-use Rattle.syntax.specs.Syntax.{Statements, no_statement, then, Function, Declaration, of_a_variable, of_a_function, Program}
+use Rattle.syntax.specs.Syntax.{Statements, no_statement, then, Declaration, of_a_variable, of_a_function, Program}
 use Rattle.syntax.specs.Typed.{program_of}
 
 abbrev pub rec : ℕ → ℕ → ℤ → Record

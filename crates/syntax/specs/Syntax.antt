@@ -1,5 +1,5 @@
 -- The language as trees. Every node keeps the index of its record, its place.
-use Rattle.std.specs.Prelude.{ℕ, zero, suc, cond, List, [], ◌∷◌, reverse, length, ℤ, Some, None, Option, ◌==◌}
+use Rattle.std.specs.Prelude.{ℕ, suc, cond, List, [], ◌∷◌, length, ℤ, Some, None, Option, ◌==◌}
 use Rattle.script.specs.declared.rows.Operator.{Operator}
 
 -- The declaration of a variable: its place, its name and its first number.

@@ -1,5 +1,5 @@
 -- The syntax tree of a table: what each record and its parts are, by the record's kind.
-use Rattle.std.specs.Prelude.{ℕ, zero, suc, List, [], ◌∷◌, map, take, ℤ, pos, slice_index_or}
+use Rattle.std.specs.Prelude.{ℕ, zero, suc, List, [], ◌∷◌, map, take, pos, slice_index_or}
 use Rattle.script.specs.declared.record.Record.{Record}
 use Rattle.script.specs.declared.rows.NodeKind.{NodeKind}
 use Rattle.script.specs.declared.rows.NodeKind.TheVariants as is

@@ -1,4 +1,6 @@
 // The syntax tree of a node table: definitions and laws that every pass over a table shares.
+#![tactic(auto)]
+
 pub mod parts;
 
 ghost use Rattle.syntax.specs.Listing.{AcceptedIsListing};

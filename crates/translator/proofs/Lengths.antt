@@ -1,18 +1,17 @@
 -- An expression has one instruction a record; a statement has at most four a record, less one.
-use Rattle.std.proofs.Common.{◌≡◌, ℕ, suc, ◌+◌, ◌*◌, ◌≤◌, List, [], ◌∷◌, ◌++◌, reverse, length, pos, sym, refl, ap, ◌∙◌, arith, length-append}
-use Rattle.script.specs.declared.record.Record.{Record}
+use Rattle.std.proofs.Common.{◌≡◌, ℕ, suc, ◌+◌, ◌*◌, ◌≤◌, List, [], ◌∷◌, ◌++◌, reverse, length, pos, refl, ap, arith, length-append}
 use Rattle.syntax.specs.Syntax.{VariableDeclaration, declare, Expression, constant, variable, binary, assign, call, bay_read}
 use Rattle.syntax.specs.Syntax.{bay_write, Arguments, no_argument, argument, Statement, evaluate, if_else, while, give_back}
-use Rattle.syntax.specs.Syntax.{block, Statements, no_statement, then, Function, Declaration, of_a_variable, of_a_function, Program}
+use Rattle.syntax.specs.Syntax.{block, Statements, no_statement, then, Function, Declaration, of_a_variable, of_a_function}
 use Rattle.syntax.specs.Syntax.{bind_names, functions_of, global_names, locate}
 use Rattle.syntax.specs.Listing.{list_expression, list_arguments, list_variables, list_statement, list_statements, list_parameters}
-use Rattle.syntax.specs.Listing.{list_declaration, list_declarations, listing}
+use Rattle.syntax.specs.Listing.{list_declaration, list_declarations}
 use Rattle.names.specs.declared.signature.Signature.{Signature}
 use Rattle.code.specs.declared.instruction.Operation.{Operation}
 use Rattle.code.specs.declared.instruction.Operation.TheVariants.{Lit, SetL, SetG, Pop, Jz, Jmp, Call, Ret, BayR, BayW, Halt}
 use Rattle.code.specs.declared.instruction.Instruction.{Instruction}
 use Rattle.code.specs.Scheme.{op, expression_code, arguments_code, statement_code, block_code, push_locals, pop_locals}
-use Rattle.code.specs.Scheme.{operator_code, variable_code, function_index, function_code, functions_code, main_code, signatures_of, program_code}
+use Rattle.code.specs.Scheme.{operator_code, variable_code, function_index, function_code, functions_code, main_code, signatures_of}
 use Rattle.translator.specs.Length.{AtMostFourARecord}
 
 -- A piece and one instruction more; two pieces and one more.

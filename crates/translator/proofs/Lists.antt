@@ -1,5 +1,5 @@
 -- Lists put down piece by piece, and the search among functions.
-use Rattle.std.proofs.Common.{◌≡◌, ℕ, zero, suc, ◌+◌, ◌-◌, ◌<◌, List, [], ◌∷◌, ◌++◌, length, get_or, drop, replicate, vec_items, vec_len, Vec, sym, refl, ap, ◌∙◌, append_assoc, add-one, arith, eq-eqb, ne_eqb}
+use Rattle.std.proofs.Common.{◌≡◌, ℕ, zero, suc, ◌+◌, ◌-◌, ◌<◌, List, [], ◌∷◌, ◌++◌, length, get_or, drop, replicate, vec_items, vec_len, Vec, sym, refl, ap, ◌∙◌, append_assoc, arith, eq-eqb, ne_eqb}
 use Rattle.std.proofs.lemmas.List.{drop_more}
 use Rattle.names.specs.declared.signature.Signature.{Signature}
 use Rattle.code.specs.Scheme.{function_index}

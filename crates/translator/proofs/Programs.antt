@@ -1,6 +1,6 @@
 -- The code of functions and of a program, put down piece by piece, with the entries and the numbers of the globals.
-use Rattle.std.proofs.Common.{◌≡◌, ℕ, suc, ◌+◌, List, [], ◌∷◌, ◌++◌, map, reverse, length, ℤ, pos, sym, refl, ap, ◌∙◌, append_assoc, arith, length-append}
-use Rattle.syntax.specs.Syntax.{VariableDeclaration, declare, Statement, Function, Declaration, of_a_variable, of_a_function, Program}
+use Rattle.std.proofs.Common.{◌≡◌, ℕ, suc, ◌+◌, List, [], ◌∷◌, ◌++◌, map, reverse, length, ℤ, pos, refl, ap, ◌∙◌, append_assoc, arith, length-append}
+use Rattle.syntax.specs.Syntax.{declare, Statement, Function, Declaration, of_a_variable, of_a_function, Program}
 use Rattle.syntax.specs.Syntax.{variables_of, functions_of, global_names, globals_of, name_of}
 use Rattle.syntax.proofs.Statements.{bound}
 use Rattle.names.specs.declared.signature.Signature.{Signature}

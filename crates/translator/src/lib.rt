@@ -1,4 +1,6 @@
 // The translator: a table of accepted shape and names becomes stack code, in memory reserved beforehand.
+#![tactic(auto)]
+
 mod emit;
 mod expressions;
 mod functions;

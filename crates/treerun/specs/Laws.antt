@@ -1,8 +1,7 @@
 -- Laws of the tree run in the subject's words: what every run of a part or of a program obeys, at a number kind,
 -- whatever words the bays can hold, whatever the program and the depth.
-use Rattle.std.specs.Prelude.{◌≡◌, ℕ, ◌+◌, ◌-◌, ◌≤◌, Bool, ◌≢◌, List, [], ◌++◌, length}
+use Rattle.std.specs.Prelude.{◌≡◌, ℕ, ◌+◌, ◌-◌, ◌≤◌, Bool, List, [], ◌++◌, length}
 use Rattle.kinds.specs.Kinds.{Kind}
-use Rattle.script.specs.declared.ending.Ending.TheVariants.{NoFuel, TooDeep}
 use Rattle.syntax.specs.Syntax.{Expression, Arguments, Statement, while, Statements, Program, globals_of, global_names}
 use Rattle.treerun.specs.TreeRun.{Setting, State, Outcome, value, returned, ended, zero_word, and_then, branch, spend}
 use Rattle.treerun.specs.TreeRun.{run_expression, run_arguments, run_statement, run_statements, clocked, run_main}

@@ -1,5 +1,5 @@
 -- The front of a slice, oldest first, as the bindings that stand, newest first.
-use Rattle.std.proofs.Common.{◌≡◌, ℕ, zero, suc, ◌+◌, ◌-◌, ◌<◌, ◌≤◌, Bool, true, false, cond, T, eqb, ◌≢◌, List, [], ◌∷◌, ◌++◌, reverse, length, get_or, take, drop, set, ℤ, pos, sym, refl, ap, ◌∙◌, subst, add-zero, add-suc, arith, eqb→eq, length-set, length-take, drop-cons, get_or-set_other, take-suc, take-suc-set}
+use Rattle.std.proofs.Common.{◌≡◌, ℕ, zero, suc, ◌+◌, ◌-◌, ◌<◌, ◌≤◌, Bool, true, false, T, eqb, ◌≢◌, List, [], ◌∷◌, reverse, length, get_or, take, drop, set, ℤ, pos, sym, refl, ap, ◌∙◌, subst, add-zero, add-suc, arith, eqb→eq, length-set, length-take, drop-cons, get_or-set_other, take-suc, take-suc-set}
 use mathlib.Core.List.{reverse_aux}
 use native.Mathlib.Decide.{ℕ_discrete}
 use lib.Dec.{eqb_refl}

@@ -1,8 +1,7 @@
 -- What a node has come to, from what its parts have come to.
-use Rattle.std.proofs.Common.{◌≡◌, ℕ, ◌≤◌, length, ℤ, Ok, Err, Result, sym, refl, ap, ◌∙◌, arith}
+use Rattle.std.proofs.Common.{◌≡◌, ℕ, ◌≤◌, length, ℤ, Ok, Err, Result, sym, ap, ◌∙◌, arith}
 use Rattle.treerun.specs.TreeRun.{Outcome, value}
 use Rattle.walk.specs.declared.state.Stop.{Stop}
-use Rattle.walk.specs.declared.state.Valued.{Valued}
 use Rattle.walk.specs.Lent.{Lent, bound, fuel, state, stopped, Ran, RanPart}
 
 module _ {A B : Type 0} {means : B → A} {next : B → ℕ} {end : ℕ} where

@@ -1,17 +1,16 @@
 -- The parts of a node can be walked where the node can.
-use Rattle.std.proofs.Common.{◌≡◌, ℕ, zero, suc, ◌+◌, ◌-◌, ◌*◌, ◌<◌, ◌≤◌, max, Bool, true, false, cond, eqb, List, [], ◌∷◌, map, reverse, length, get_or, replicate, Some, None, Option, sym, refl, ap, ◌∙◌, subst, suc-mul, arith}
+use Rattle.std.proofs.Common.{◌≡◌, ℕ, suc, ◌+◌, ◌-◌, ◌*◌, ◌<◌, ◌≤◌, max, Bool, true, false, cond, eqb, List, [], ◌∷◌, map, reverse, length, get_or, Some, Option, sym, refl, ap, ◌∙◌, subst, suc-mul, arith}
 use native.Mathlib.Decide.{ℕ_discrete}
 use Rattle.script.specs.declared.record.Record.{Record}
 use Rattle.script.specs.declared.rows.Operator.{Operator}
 use Rattle.script.specs.declared.rows.Sort.TheVariants.{Expression as ExpressionSort, Statement as StatementSort}
-use Rattle.script.specs.declared.rows.NodeKind.{NodeKind}
 use Rattle.script.specs.declared.rows.NodeKind.TheVariants as is
 use Rattle.script.specs.Rows.{natural, amount}
-use Rattle.syntax.specs.Syntax.{Expression, binary, assign, call, bay_read, bay_write, Arguments, no_argument, argument, argument_count}
+use Rattle.syntax.specs.Syntax.{Expression, binary, assign, call, bay_read, bay_write, Arguments, no_argument, argument}
 use Rattle.syntax.specs.Syntax.{Statement, evaluate, if_else, while, give_back, block, Statements, no_statement, then, Function}
 use Rattle.syntax.specs.Syntax.{function_named, name_of}
-use Rattle.syntax.specs.Trees.{size, sizes, pieces, tree_at, no_record, Sounds, Leaves, Part}
-use Rattle.syntax.specs.Typed.{make_expression, arguments_of, statements_of, expression_at, arguments_at, statement_at, statements_at, variables_at, node_at}
+use Rattle.syntax.specs.Trees.{size, sizes, pieces, tree_at, no_record, Leaves}
+use Rattle.syntax.specs.Typed.{arguments_of, statements_of, expression_at, arguments_at, statement_at, statements_at, variables_at, node_at}
 use Rattle.syntax.specs.Typed.{function_of, first_parts}
 use Rattle.syntax.proofs.NodeKinds.{row_for, row_is}
 use Rattle.syntax.proofs.Expressions.{firsts}
@@ -22,7 +21,7 @@ use Rattle.names.specs.Need.{need_expression, need_arguments, need_statement, ne
 use Rattle.names.specs.Scoped.{Takes, ScopedExpression, ScopedArguments, ScopedStatement, ScopedStatements, ScopedFunctions}
 use Rattle.walk.specs.declared.state.Calls.{Calls}
 use Rattle.walk.specs.Lent.{Lent, bound}
-use Rattle.walk.specs.Ready.{Accepted, functions_in, globals_in, need_in, Room, ReadyExpression, ReadyArguments, ReadyStatement, ReadyStatements, Located}
+use Rattle.walk.specs.Ready.{functions_in, globals_in, need_in, Room, ReadyExpression, ReadyArguments, ReadyStatement, ReadyStatements, Located}
 use Rattle.walk.proofs.Views.{one-part, two-parts, called}
 
 -- As many bindings stand, in slices as long.

@@ -1,12 +1,11 @@
 -- The outcome of a node from those of its parts, in the terms of a walk.
-use Rattle.std.proofs.Common.{◌≡◌, ℕ, zero, suc, Bool, true, false, eqb, List, reverse, take, ℤ, pos, Some, None, Ok, Err, Option, Result, sym, refl, ap, ◌∙◌, arith}
+use Rattle.std.proofs.Common.{◌≡◌, ℕ, suc, true, false, eqb, List, reverse, take, ℤ, pos, Some, None, Option, Result, sym, refl, ap, ◌∙◌}
 use Rattle.std.specs.List.{slice_get}
-use Rattle.script.specs.declared.ending.Ending.{Ending}
 use Rattle.script.specs.declared.ending.Ending.TheVariants.{NoFuel, TooDeep}
 use Rattle.kinds.specs.Counter.{counter}
 use Rattle.script.specs.declared.record.Record.{Record}
 use Rattle.syntax.specs.Syntax.{Function, Expression, Statement, while}
-use Rattle.treerun.specs.TreeRun.{Setting, State, Outcome, value, returned, ended, BayAnswer, gives, fails, zero_word}
+use Rattle.treerun.specs.TreeRun.{Setting, State, Outcome, value, ended, BayAnswer, gives, fails, zero_word}
 use Rattle.treerun.specs.TreeRun.{and_then, spend, spend_from, leave_block, leave_call, enter, with_fuel, bind_parameters, answered, branch, found, read_bay}
 use Rattle.treerun.specs.Laws.{expression_run, statement_run}
 use Rattle.treerun.proofs.ByRules.{by-rules}

@@ -1,8 +1,8 @@
 -- Where parts of a table end, as the functions that skip them find it.
-use Rattle.std.proofs.Common.{◌≡◌, ℕ, zero, suc, ◌+◌, ◌-◌, ◌<◌, ◌≤◌, List, [], ◌∷◌, length, get_or, sym, refl, ap, ◌∙◌, add-zero, add_assoc, arith}
+use Rattle.std.proofs.Common.{◌≡◌, ℕ, zero, suc, ◌+◌, ◌-◌, ◌<◌, ◌≤◌, List, length, get_or, sym, refl, ap, ◌∙◌, add-zero, add_assoc, arith}
 use Rattle.std.proofs.lemmas.List.{drop_all}
 use Rattle.script.specs.declared.record.Record.{Record}
-use Rattle.syntax.specs.Trees.{Forest, none, more, taken, arity, forest, size, sizes, pieces, tree_at}
+use Rattle.syntax.specs.Trees.{Forest, none, taken, arity, forest, size, sizes, pieces, tree_at}
 use Rattle.syntax.proofs.Forests.{here, next}
 
 taken_none : (n : ℕ) → taken n none ≡ none

@@ -1,5 +1,5 @@
 -- What was lent as a state of the tree run: bindings on top, and bindings dropped.
-use Rattle.std.proofs.Common.{◌≡◌, ℕ, zero, suc, ◌+◌, ◌-◌, ◌<◌, ◌≤◌, List, [], ◌∷◌, ◌++◌, reverse, length, get_or, take, drop, set, ℤ, pos, sym, refl, ap, ◌∙◌, append_assoc, add-one, one-add, arith, length-append, drop-cons, drop-drop}
+use Rattle.std.proofs.Common.{◌≡◌, ℕ, zero, suc, ◌+◌, ◌-◌, ◌<◌, ◌≤◌, List, [], ◌∷◌, ◌++◌, reverse, length, get_or, take, drop, set, ℤ, pos, refl, ap, ◌∙◌, append_assoc, add-one, one-add, arith, length-append, drop-cons, drop-drop}
 use mathlib.Core.List.{reverse-cons}
 use Rattle.kinds.specs.Counter.{counter}
 use Rattle.syntax.specs.Syntax.{VariableDeclaration, declare}

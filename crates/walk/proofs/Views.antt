@@ -1,16 +1,15 @@
 -- An expression by the kind of its record: what it is, and where its parts stand.
-use Rattle.std.proofs.Common.{◌≡◌, ℕ, zero, suc, ◌+◌, ◌-◌, ◌<◌, ◌≤◌, Bool, true, false, cond, ◌&&◌, T, leb, List, [], ◌∷◌, length, get_or, replicate, ℤ, pos, negsuc, Ok, Err, sym, refl, ap, ◌∙◌, subst, arith, leb→le}
+use Rattle.std.proofs.Common.{◌≡◌, ℕ, ◌+◌, ◌≤◌, Bool, true, false, cond, ◌&&◌, T, List, get_or, replicate, ℤ, pos, negsuc, Ok, Err, sym, refl, ap, ◌∙◌, subst, arith, leb→le}
 use Rattle.script.specs.declared.record.Record.{Record}
 use Rattle.script.specs.declared.refusal.Refusal.TheVariants.{FieldOutOfBounds, UnexpectedKind}
 use Rattle.script.specs.declared.rows.Row.{Row}
-use Rattle.script.specs.declared.rows.Sort.{Sort}
 use Rattle.script.specs.declared.rows.Sort.TheVariants.{Expression as ExpressionSort}
 use Rattle.script.specs.declared.rows.Bound.TheVariants.{UpTo}
 use Rattle.script.specs.declared.rows.NodeKind.{NodeKind}
 use Rattle.script.specs.declared.rows.NodeKind.TheVariants as is
-use Rattle.script.specs.Rows.{row_of, node_of, amount, natural, suits, within}
-use Rattle.script.specs.Shape.{fitting, fields}
-use Rattle.syntax.specs.Syntax.{Expression, call, Arguments, no_argument, argument, argument_count}
+use Rattle.script.specs.Rows.{row_of, amount, natural, suits, within}
+use Rattle.script.specs.Shape.{fields}
+use Rattle.syntax.specs.Syntax.{call, no_argument, argument, argument_count}
 use Rattle.syntax.specs.Trees.{node, arity, size, sizes, pieces, tree_at, no_record, Sound, Sounds, Part}
 use Rattle.syntax.specs.Typed.{make_expression, arguments_of, expression_at, arguments_at, node_at, first_parts}
 use Rattle.syntax.proofs.NodeKinds.{row_for, row_is, by-expression, suited}

@@ -1,14 +1,13 @@
 -- A whole walk: what an accepted table gives it, and how its answer and its slices are those of the run.
-use Rattle.std.proofs.Common.{◌≡◌, ℕ, zero, suc, ◌+◌, ◌-◌, ◌*◌, ◌<◌, ◌≤◌, min, Bool, true, false, cond, ◌&&◌, leb, List, [], ◌∷◌, ◌++◌, reverse, length, get_or, take, drop, ℤ, Ok, Err, Result, sym, refl, ap, ◌∙◌, arith, length-take}
+use Rattle.std.proofs.Common.{◌≡◌, ℕ, ◌+◌, ◌-◌, ◌≤◌, Bool, true, false, List, [], ◌∷◌, ◌++◌, reverse, length, get_or, take, drop, ℤ, Ok, Err, Result, sym, refl, ap, ◌∙◌, arith, length-take}
 use mathlib.Core.List.{reverse_aux, reverse_aux-eq, reverse-reverse}
 use Rattle.std.proofs.lemmas.List.{take-append-drop}
 use Rattle.script.specs.declared.record.Record.{Record}
 use Rattle.script.specs.declared.refusal.Refusal.{Refusal}
-use Rattle.script.specs.declared.refusal.Refusal.TheVariants.{FuelOrDepth, TooFewWords}
 use Rattle.script.specs.Sequence.{and_then}
 use Rattle.script.specs.Shape.{shape}
 use Rattle.syntax.specs.Syntax.{VariableDeclaration, Statement, Declaration, of_a_variable, of_a_function, Program, variables_of, globals_of}
-use Rattle.syntax.specs.Trees.{Tree, tree_at, pieces, arity, no_record}
+use Rattle.syntax.specs.Trees.{Tree, pieces, arity, no_record}
 use Rattle.syntax.specs.Typed.{program_of, program_in, declarations_of}
 use Rattle.syntax.proofs.Forests.{here}
 use Rattle.syntax.proofs.Shaped.{shaped, few-declarations}

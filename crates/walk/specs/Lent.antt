@@ -1,5 +1,5 @@
 -- What the slices and the bays lent to a walk mean as a state of the tree run, and what a part that was walked has come to.
-use Rattle.std.specs.Prelude.{◌≡◌, ℕ, ◌≤◌, Bool, true, List, ◌∷◌, reverse, length, take, drop, ℤ, pos, Ok, Err, Result}
+use Rattle.std.specs.Prelude.{◌≡◌, ℕ, ◌≤◌, Bool, true, List, ◌∷◌, reverse, length, take, drop, ℤ, Ok, Err, Result}
 use Rattle.script.specs.declared.record.Record.{Record}
 use Rattle.syntax.specs.Typed.{program_of}
 use Rattle.kinds.specs.Counter.{counter}

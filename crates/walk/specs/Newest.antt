@@ -1,5 +1,5 @@
 -- The newest binding of a name among the first `bound` of a list of names, oldest first.
-use Rattle.std.specs.Prelude.{◌≡◌, ℕ, ◌<◌, ◌≤◌, List, length, Some, None, Option, ◌≢◌, slice_index, slice_index_or}
+use Rattle.std.specs.Prelude.{◌≡◌, ℕ, ◌<◌, ◌≤◌, List, Some, None, Option, ◌≢◌, slice_index, slice_index_or}
 
 -- The name stands nowhere between two indices.
 abbrev pub Absent : List ℕ → ℕ → ℕ → ℕ → Type 0

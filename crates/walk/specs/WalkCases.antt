@@ -1,12 +1,11 @@
 -- Worked cases of a walk: its refusals, and what names, words and bays then hold.
-use Rattle.std.specs.Prelude.{◌≡◌, ℕ, List, [], ◌∷◌, replicate, ℤ, pos, Some, None, Ok}
+use Rattle.std.specs.Prelude.{◌≡◌, ◌∷◌, replicate, pos, Some, None, Ok}
 use Rattle.script.specs.declared.ending.Ending.TheVariants.{Done, NoFuel}
 use Rattle.script.specs.EndBay.{end_bay}
 use Rattle.script.specs.Refusals.{RefusedWith}
 use Rattle.syntax.specs.Typed.{program_of}
 use Rattle.names.specs.Need.{largest_need}
-use Rattle.walk.specs.declared.report.Report.{Report}
-use Rattle.walk.specs.Walked.{Walked, leaves, room_for}
+use Rattle.walk.specs.Walked.{leaves, room_for}
 use Rattle.walk.specs.WorkedCases.{end_bay_walk}
 
 pub record WalkCases : Type 0 where

@@ -1,5 +1,5 @@
 -- The worked cases of table, names, tree run and walk, as one list about their definitions.
-use Rattle.std.specs.Prelude.{◌≡◌, ℕ, List, [], ◌∷◌, replicate, ℤ, pos, Some, None, Ok}
+use Rattle.std.specs.Prelude.{◌≡◌, ℕ, ◌∷◌, replicate, pos, Some, None, Ok}
 use Rattle.script.specs.declared.ending.Ending.TheVariants.{Done, NoFuel}
 use Rattle.script.specs.EndBay.{end_bay}
 use Rattle.script.specs.Refusals.{RefusedWith}
@@ -8,7 +8,6 @@ use Rattle.syntax.specs.Typed.{program_of}
 use Rattle.names.specs.Need.{largest_need}
 use Rattle.names.specs.NameCases.{NameCases}
 use Rattle.treerun.specs.Cases.{Cases}
-use Rattle.walk.specs.declared.report.Report.{Report}
 use Rattle.walk.specs.Walked.{Walked, leaves, room_for, walked}
 
 -- A walk of the end-bay table at depth 1 over three zero bays, with slices of n elements that hold nines.

@@ -1,4 +1,6 @@
 // The tree run as code: it walks the records of an accepted table.
+#![tactic(auto)]
+
 mod bays;
 mod bind;
 pub mod cases;

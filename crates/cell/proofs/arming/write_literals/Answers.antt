@@ -1,5 +1,5 @@
 -- One literal more a turn, and at the end all of them.
-use Rattle.std.proofs.Common.{◌≡◌, ℕ, ◌<◌, ◌≤◌, List, ◌++◌, map, length, get_or, take, drop, set, ℤ, pos, sym, ap, ◌∙◌, add-one, arith, w32, SFits, rules}
+use Rattle.std.proofs.Common.{◌≡◌, ℕ, List, ◌++◌, map, length, get_or, take, drop, set, ℤ, pos, sym, ap, ◌∙◌, add-one, arith, w32, SFits, rules}
 use Rattle.std.proofs.lemmas.List.{take_all}
 use Rattle.std.proofs.lemmas.Int.{to_z-of_z}
 use Rattle.cell.proofs.Literals.{one_more}

@@ -1,4 +1,4 @@
-use Rattle.std.proofs.Common.{◌≡◌, ℕ, ◌+◌, ◌<◌, ◌≤◌, List, [], reverse, length, get_or, take, Ok, sym, refl, ap, ◌∙◌, arith}
+use Rattle.std.proofs.Common.{◌≡◌, ℕ, List, [], reverse, length, get_or, take, refl, ap, arith}
 use Rattle.std.proofs.lemmas.Result.{err_from_is_err_and}
 use Rattle.stack.specs.Store.{contents, capacity}
 use Rattle.script.specs.declared.record.Record.{Record}
@@ -19,53 +19,53 @@ bodies-requires c =
     let store : capacity c.new-scope.result ≡ 1024 = ap length c.new-scope.ensures.words in
     record { within = omega arith; sound = p.declared; room = omega arith }
 
-pub returns-in-err-main : goal.returns-in-err-main
-returns-in-err-main c =
+pub returns-in_err-main : goal.returns-in_err-main
+returns-in_err-main c =
     let table : List Record = c.args.table.now in
     let p = programmed table (get_or table 0 no_record).a _ no_record c.requires.within.0 c.requires.sound refl refl in
-    let q = err_from_is_err_and c.from-residual.result c.from-residual.ensures.1 in
-    rw (q.1, q.2, p.is) (refused _ _ _ _ _ c.in-err-main.ensures.answer)
+    let q = err_from_is_err_and c.from_residual.result c.from_residual.ensures.1 in
+    rw (q.1, q.2, p.is) (refused _ _ _ _ _ c.in_err-main.ensures.answer)
 
 pub statement-requires : goal.statement-requires
 statement-requires c =
     let table : List Record = c.args.table.now in
-    let w = went _ _ _ c.in-ok-main.ensures.answer in
-    let p = programmed table (get_or table 0 no_record).a c.in-ok-main.main no_record c.requires.within.0
+    let w = went _ _ _ c.in_ok-main.ensures.answer in
+    let p = programmed table (get_or table 0 no_record).a c.in_ok-main.main no_record c.requires.within.0
     c.requires.sound refl w.1 in
     let store : capacity c.new-scope.result ≡ 1024 = ap length c.new-scope.ensures.words in
     let cut : capacity c.cut.new.self
     ≡ capacity c.bodies.new.scope = ap length c.cut.ensures.words in
     let low : c.cut.new.self.height ≡ 0 = c.cut.ensures.height in
-    record { within = p.within; sound = p.body; room = omega (arith, c.in-ok-main.ensures.store) }
+    record { within = p.within; sound = p.body; room = omega (arith, c.in_ok-main.ensures.store) }
 
-pub returns-in-err-statement : goal.returns-in-err-statement
-returns-in-err-statement c =
+pub returns-in_err-statement : goal.returns-in_err-statement
+returns-in_err-statement c =
     let table : List Record = c.args.table.now in
-    let w = went _ _ _ c.in-ok-main.ensures.answer in
-    let p = programmed table (get_or table 0 no_record).a c.in-ok-main.main no_record c.requires.within.0
+    let w = went _ _ _ c.in_ok-main.ensures.answer in
+    let p = programmed table (get_or table 0 no_record).a c.in_ok-main.main no_record c.requires.within.0
     c.requires.sound refl w.1 in
     let globals : List ℕ = reverse c.args.globals.now in
     let functions : List Signature = c.args.functions.now in
-    let main : Statement = statement_at table c.in-ok-main.main in
+    let main : Statement = statement_at table c.in_ok-main.main in
     let empty : contents c.cut.new.self
     ≡ [] = ap (λ (h : ℕ). take h c.cut.new.self.words.now) c.cut.ensures.height in
-    let q = err_from_is_err_and c.from-residual-in-err-statement.result
-    c.from-residual-in-err-statement.ensures.1 in
+    let q = err_from_is_err_and c.from_residual-in_err-statement.result
+    c.from_residual-in_err-statement.ensures.1 in
     rw (q.1, q.2, p.is)
     (refused-after _ (statement_rules globals functions main []) _ _ _ w.0
-    (empty-scope globals functions main _ _ _ empty c.in-err-statement.ensures.answer))
+    (empty-scope globals functions main _ _ _ empty c.in_err-statement.ensures.answer))
 
 pub returns : goal.returns
 returns c =
     let table : List Record = c.args.table.now in
-    let w = went _ _ _ c.in-ok-main.ensures.answer in
-    let p = programmed table (get_or table 0 no_record).a c.in-ok-main.main no_record c.requires.within.0
+    let w = went _ _ _ c.in_ok-main.ensures.answer in
+    let p = programmed table (get_or table 0 no_record).a c.in_ok-main.main no_record c.requires.within.0
     c.requires.sound refl w.1 in
     let globals : List ℕ = reverse c.args.globals.now in
     let functions : List Signature = c.args.functions.now in
-    let main : Statement = statement_at table c.in-ok-main.main in
+    let main : Statement = statement_at table c.in_ok-main.main in
     let empty : contents c.cut.new.self
     ≡ [] = ap (λ (h : ℕ). take h c.cut.new.self.words.now) c.cut.ensures.height in
     let u = went _ _ _ (empty-scope globals functions main _ _ _ empty
-    c.in-ok-statement.ensures.answer) in
+    c.in_ok-statement.ensures.answer) in
     rw p.is (both-fine _ (statement_rules globals functions main []) _ _ w.0 u.0 w.1)

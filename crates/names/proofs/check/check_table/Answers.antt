@@ -5,6 +5,6 @@ use Rattle.names.proofs.check.check_table.Goals as goal
 
 pub returns : goal.returns
 returns c =
-    let answer : c.check-names.result ≡ table_rules c.args.table.now =
-    past-shape c.args.table.now _ _ c.in-ok-check-sound.ensures.answer c.check-names.ensures.answer in
+    let answer : c.check_names.result ≡ table_rules c.args.table.now =
+    past-shape c.args.table.now _ _ c.in_ok-check_sound.ensures.answer c.check_names.ensures.answer in
     record { answer = answer; meaning = rightly-answered c.args.table.now _ answer }

@@ -1,4 +1,4 @@
-use Rattle.std.proofs.Common.{◌≡◌, ◌+◌, ◌-◌, ◌<◌, sym, refl, ap, ◌∙◌, add-one, arith}
+use Rattle.std.proofs.Common.{◌-◌, ◌<◌, refl, ap, add-one, arith}
 use Rattle.syntax.specs.Trees.{no_record}
 use Rattle.syntax.specs.Typed.{arguments_of, arguments_at}
 use Rattle.names.specs.Need.{need_arguments}
@@ -38,13 +38,13 @@ arguments-returns t c =
 pub expression-arguments-parts-requires : goal.expression-arguments-parts-requires
 expression-arguments-parts-requires t c =
     let p = expressed c.args.table.now c.args.at _ no_record c.requires.within c.requires.sound
-    c.part-count.ensures in
+    c.part_count.ensures in
     (omega arith, (p.within, (p.sound, omega arith)))
 
 pub expression-returns : goal.expression-returns
 expression-returns t c =
     let p = expressed c.args.table.now c.args.at _ no_record c.requires.within c.requires.sound
-    c.part-count.ensures in
+    c.part_count.ensures in
     record {
       words = omega (arith, expression-need _ _ _ _ p);
       next = omega (arith, p.whole);

@@ -1,4 +1,4 @@
-use Rattle.std.proofs.Common.{◌≡◌, List, sym, refl, ap, ◌∙◌}
+use Rattle.std.proofs.Common.{List, sym, ap, ◌∙◌}
 use Rattle.std.proofs.lemmas.List.{drop_all}
 use Rattle.names.specs.declared.signature.Signature.{Signature}
 use Rattle.names.specs.Names.{call_rule}
@@ -7,7 +7,7 @@ use Rattle.names.proofs.lookups.check_call.Goals as goal
 
 pub returns-then-function-name : goal.returns-then-function-name
 returns-then-function-name c =
-    c.check-count.ensures
+    c.check_count.ensures
     ∙ sym (sym c.loop-function.invariant
     ∙ call-here _ _ _ _ c.loop-function-test.true c.args.count c.args.place c.if-function-name.true)
 

@@ -6,7 +6,7 @@ use Rattle.script.proofs.rows.row_of.Goals as goal
 
 pub returns-then-kind-lt32 : goal.returns-then-kind-lt32
 unfolding row_of
-returns-then-kind-lt32 c = c.listed-row.ensures
+returns-then-kind-lt32 c = c.listed_row.ensures
 
 pub returns-else-kind-lt32 : goal.returns-else-kind-lt32
 unfolding row_of

@@ -1,4 +1,4 @@
-use Rattle.std.proofs.Common.{◌≡◌, ℕ, ◌+◌, ◌-◌, ◌<◌, List, [], ◌∷◌, ◌++◌, reverse, vec_items, sym, refl, ap, ◌∙◌, arith}
+use Rattle.std.proofs.Common.{ℕ, ◌+◌, ◌-◌, ◌<◌, List, [], ◌∷◌, ◌++◌, reverse, vec_items, refl, ap, ◌∙◌, arith}
 use Rattle.script.specs.declared.record.Record.{Record}
 use Rattle.syntax.specs.Trees.{no_record}
 use Rattle.syntax.specs.Typed.{expression_at, arguments_at}
@@ -48,13 +48,13 @@ arguments-returns t c =
 pub expression-arguments-next-requires : goal.expression-arguments-next-requires
 expression-arguments-next-requires t c =
     let p = expressed c.args.table.now c.args.at _ no_record c.requires.within c.requires.sound
-    c.part-count.ensures in
+    c.part_count.ensures in
     (omega arith, (p.within, (p.sound, omega (arith, p.whole))))
 
 pub expression-append-requires : goal.expression-append-requires
 expression-append-requires t c =
     let p = expressed c.args.table.now c.args.at _ no_record c.requires.within c.requires.sound
-    c.part-count.ensures in
+    c.part_count.ensures in
     omega (arith, p.whole)
 
 pub expression-returns : goal.expression-returns
@@ -63,11 +63,11 @@ expression-returns t c =
     let globals : List ℕ = reverse c.args.globals.now in
     let functions : List Signature = c.args.functions.now in
     let own : List ℕ = reverse c.args.scope.now in
-    let p = expressed table c.args.at _ no_record c.requires.within c.requires.sound c.part-count.ensures in
+    let p = expressed table c.args.at _ no_record c.requires.within c.requires.sound c.part_count.ensures in
     record {
       items = rw (expression-code globals functions own _ _ _ _ p)
           (joined (vec_items c.args.code.now)
-          (arguments_code globals functions (arguments_at table (c.args.at + 1) c.part-count.result) own) _ _ _
+          (arguments_code globals functions (arguments_at table (c.args.at + 1) c.part_count.result) own) _ _ _
           c.arguments-next.ensures.items
           (c.append.ensures.items
           ∙ ap (λ (o : Operation). vec_items c.arguments-next.new.code ++ op c.args.at o ∷ [])

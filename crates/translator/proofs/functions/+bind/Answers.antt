@@ -1,4 +1,4 @@
-use Rattle.std.proofs.Common.{◌≡◌, ℕ, ◌+◌, ◌-◌, ◌<◌, List, sym, refl, ap, ◌∙◌, arith}
+use Rattle.std.proofs.Common.{◌+◌, ◌-◌, ◌<◌, List, ◌∙◌, arith}
 use Rattle.stack.specs.Store.{capacity}
 use Rattle.stack.proofs.Contents.{height-pushed, contents-pushed, capacity-pushed}
 use Rattle.script.specs.declared.record.Record.{Record}

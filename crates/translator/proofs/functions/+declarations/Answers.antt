@@ -1,7 +1,7 @@
-use Rattle.std.proofs.Common.{◌≡◌, ℕ, ◌+◌, ◌-◌, ◌*◌, ◌<◌, ◌≤◌, List, [], ◌∷◌, ◌++◌, reverse, length, get_or, ℤ, vec_items, vec_len, vec_capacity, sym, refl, ap, ◌∙◌, arith, w32, SFits, rules}
+use Rattle.std.proofs.Common.{◌≡◌, ℕ, ◌+◌, ◌-◌, ◌<◌, List, [], ◌∷◌, ◌++◌, reverse, get_or, ℤ, vec_items, vec_len, sym, refl, ap, ◌∙◌, arith, w32, SFits, rules}
 use Rattle.std.proofs.lemmas.Int.{to_z-of_z}
 use Rattle.script.specs.declared.record.Record.{Record}
-use Rattle.syntax.specs.Syntax.{Declaration, of_a_function, Function, functions_of}
+use Rattle.syntax.specs.Syntax.{Declaration, of_a_function, Function}
 use Rattle.syntax.specs.Trees.{tree_at, no_record}
 use Rattle.syntax.specs.Typed.{declarations_at, function_of, first_parts}
 use Rattle.syntax.proofs.Expressions.{firsts}
@@ -47,11 +47,11 @@ declarations-requires t c =
       ),
     )
 
-pub declarations-requires-in-default : goal.declarations-requires-in-default
-declarations-requires-in-default t c =
+pub declarations-requires-in_default : goal.declarations-requires-in_default
+declarations-requires-in_default t c =
     let k : 0 < c.args.count = omega arith in
     let p = first-variable c.args.table.now c.args.at c.args.count no_record k c.requires.sound
-    (λ e. c.in-default.not-Function (c.node-kind.ensures ∙ e)) in (
+    (λ e. c.in_default.not-Function (c.node_kind.ensures ∙ e)) in (
       omega arith,
       (
         omega (arith, p.within),
@@ -96,26 +96,26 @@ returns-in-Function t c =
       );
     }
 
-pub returns-in-default : goal.returns-in-default
-returns-in-default t c =
+pub returns-in_default : goal.returns-in_default
+returns-in_default t c =
     let table : List Record = c.args.table.now in
     let k : 0 < c.args.count = omega arith in
     let p = first-variable table c.args.at c.args.count no_record k c.requires.sound
-    (λ e. c.in-default.not-Function (c.node-kind.ensures ∙ e)) in
+    (λ e. c.in_default.not-Function (c.node_kind.ensures ∙ e)) in
     let z : ℤ = (get_or table c.args.at no_record).v in
     let f : SFits w32 z = search rules in
-    let pushed = c.push-reserved.ensures.items
+    let pushed = c.push_reserved.ensures.items
     ∙ ap (λ (x : ℤ). vec_items c.args.numbers.now ++ x ∷ []) (to_z-of_z w32 z f) in
     record {
-      items = rw p.is c.declarations-in-default.ensures.items;
+      items = rw p.is c.declarations-in_default.ensures.items;
       bound = omega (arith, p.whole);
-      entry = rw p.is c.declarations-in-default.ensures.entry;
-      number = first-number _ _ _ _ _ _ _ _ p.is pushed c.declarations-in-default.ensures.number;
+      entry = rw p.is c.declarations-in_default.ensures.entry;
+      number = first-number _ _ _ _ _ _ _ _ p.is pushed c.declarations-in_default.ensures.number;
       capacity = (
-        omega (arith, c.declarations-in-default.ensures.capacity.0),
+        omega (arith, c.declarations-in_default.ensures.capacity.0),
         (
-          omega (arith, c.declarations-in-default.ensures.capacity.1.0),
-          omega (arith, c.declarations-in-default.ensures.capacity.1.1),
+          omega (arith, c.declarations-in_default.ensures.capacity.1.0),
+          omega (arith, c.declarations-in_default.ensures.capacity.1.1),
         ),
       );
     }

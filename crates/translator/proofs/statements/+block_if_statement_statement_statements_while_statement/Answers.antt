@@ -1,8 +1,8 @@
-use Rattle.std.proofs.Common.{◌≡◌, ℕ, ◌+◌, ◌-◌, ◌*◌, ◌<◌, ◌≤◌, List, [], ◌∷◌, ◌++◌, map, reverse, length, get_or, vec_items, vec_len, vec_capacity, sym, refl, ap, ◌∙◌, arith}
-use Rattle.stack.specs.Store.{contents, capacity}
+use Rattle.std.proofs.Common.{◌≡◌, ℕ, ◌+◌, ◌-◌, ◌<◌, ◌≤◌, List, [], ◌∷◌, ◌++◌, map, reverse, length, get_or, vec_items, vec_len, sym, refl, ap, ◌∙◌, arith}
+use Rattle.stack.specs.Store.{contents}
 use Rattle.stack.proofs.Contents.{length-contents, contents-cut}
 use Rattle.script.specs.declared.record.Record.{Record}
-use Rattle.syntax.specs.Trees.{size, sizes, pieces, tree_at, no_record}
+use Rattle.syntax.specs.Trees.{no_record}
 use Rattle.syntax.specs.Syntax.{VariableDeclaration, Statements, name_of, bind_names}
 use Rattle.syntax.specs.Typed.{expression_at, statement_at, statements_at, variables_at}
 use Rattle.syntax.proofs.Expressions.{firsts}
@@ -18,47 +18,47 @@ use Rattle.translator.proofs.Lists.{joined, under, long}
 use Rattle.translator.proofs.Codes.{if-code, while-code, then-code, block-code}
 use Rattle.translator.proofs.statements.+block_if_statement_statement_statements_while_statement.Goals as goal
 
-pub if-statement-expression-first-requires : goal.if-statement-expression-first-requires
-if-statement-expression-first-requires t c =
+pub if_statement-expression-first-requires : goal.if_statement-expression-first-requires
+if_statement-expression-first-requires t c =
     let table : List Record = c.args.table.now in
     let at : ℕ = c.args.at in
     let p = chosen table at _ _ c.requires.within c.requires.sound c.requires.kind refl refl in
     record { within = p.test_within; sound = p.test; room = omega (arith, p.whole) }
 
-pub if-statement-append-requires : goal.if-statement-append-requires
-if-statement-append-requires t c =
+pub if_statement-append-requires : goal.if_statement-append-requires
+if_statement-append-requires t c =
     let table : List Record = c.args.table.now in
     let at : ℕ = c.args.at in
     let p = chosen table at c.expression-first.result _ c.requires.within c.requires.sound c.requires.kind
     c.expression-first.ensures.next refl in
     omega (arith, p.whole)
 
-pub if-statement-statement-second-requires : goal.if-statement-statement-second-requires
-if-statement-statement-second-requires t c =
+pub if_statement-statement-second-requires : goal.if_statement-statement-second-requires
+if_statement-statement-second-requires t c =
     let table : List Record = c.args.table.now in
     let at : ℕ = c.args.at in
     let p = chosen table at c.expression-first.result _ c.requires.within c.requires.sound c.requires.kind
     c.expression-first.ensures.next refl in
     (omega (arith, p.first_within), (p.first_within, (p.first, (omega arith, omega (arith, p.whole)))))
 
-pub if-statement-append-requires-2 : goal.if-statement-append-requires-2
-if-statement-append-requires-2 t c =
+pub if_statement-append-requires-2 : goal.if_statement-append-requires-2
+if_statement-append-requires-2 t c =
     let table : List Record = c.args.table.now in
     let at : ℕ = c.args.at in
     let p = chosen table at c.expression-first.result c.statement-second.result c.requires.within c.requires.sound
     c.requires.kind c.expression-first.ensures.next c.statement-second.ensures.next in
     omega (arith, p.whole)
 
-pub if-statement-statement-next-requires : goal.if-statement-statement-next-requires
-if-statement-statement-next-requires t c =
+pub if_statement-statement-next-requires : goal.if_statement-statement-next-requires
+if_statement-statement-next-requires t c =
     let table : List Record = c.args.table.now in
     let at : ℕ = c.args.at in
     let p = chosen table at c.expression-first.result c.statement-second.result c.requires.within c.requires.sound
     c.requires.kind c.expression-first.ensures.next c.statement-second.ensures.next in
     (omega (arith, p.second_within), (p.second_within, (p.second, (omega arith, omega (arith, p.whole)))))
 
-pub if-statement-returns : goal.if-statement-returns
-if-statement-returns t c =
+pub if_statement-returns : goal.if_statement-returns
+if_statement-returns t c =
     let table : List Record = c.args.table.now in
     let at : ℕ = c.args.at in
     let globals : List ℕ = reverse c.args.globals.now in
@@ -72,18 +72,18 @@ if-statement-returns t c =
     c.expression-first.ensures.items c.live.ensures in
     let second = under _ _
     (λ l. statement_code globals functions leave (statement_at table c.statement-second.result) (reverse l)
-    (vec_len c.patch-jz.new.code)) _ _ c.statement-next.ensures.items c.statement-second.ensures.kept in
+    (vec_len c.patch_jz.new.code)) _ _ c.statement-next.ensures.items c.statement-second.ensures.kept in
     record {
       items = rw p.is (if-code globals functions leave (reverse scope) at (expression_at table (at + 1))
           (statement_at table c.expression-first.result) (statement_at table c.statement-second.result) before
           _ _ _ _ _ _ _ (vec_len c.args.code.now) c.len-test.result (vec_len c.append.new.code)
-          c.len-skip.result (vec_len c.append-2.new.code) (vec_len c.patch-jz.new.code)
+          c.len-skip.result (vec_len c.append-2.new.code) (vec_len c.patch_jz.new.code)
           (vec_len c.statement-next.new.code) _ _
           (long c.args.code.now) (long c.expression-first.new.code ∙ sym c.len-test.ensures)
           (long c.append.new.code) (long c.statement-second.new.code ∙ sym c.len-skip.ensures)
-          (long c.append-2.new.code) (long c.patch-jz.new.code) (long c.statement-next.new.code)
+          (long c.append-2.new.code) (long c.patch_jz.new.code) (long c.statement-next.new.code)
           tested c.append.ensures.items c.statement-second.ensures.items c.append-2.ensures.items
-          c.patch-jz.ensures.items second c.patch-jmp.ensures.items);
+          c.patch_jz.ensures.items second c.patch_jmp.ensures.items);
       longer = omega arith;
       bound = omega (arith, p.whole);
       capacity = omega arith;
@@ -93,62 +93,62 @@ if-statement-returns t c =
       next = omega (arith, p.whole);
     }
 
-pub while-statement-append-requires : goal.while-statement-append-requires
-while-statement-append-requires t c =
+pub while_statement-append-requires : goal.while_statement-append-requires
+while_statement-append-requires t c =
     let table : List Record = c.args.table.now in
     let at : ℕ = c.args.at in
     let p = looped table at _ c.requires.within c.requires.sound c.requires.kind refl in
     omega (arith, p.whole)
 
-pub while-statement-expression-body-requires : goal.while-statement-expression-body-requires
-while-statement-expression-body-requires t c =
+pub while_statement-expression-body-requires : goal.while_statement-expression-body-requires
+while_statement-expression-body-requires t c =
     let table : List Record = c.args.table.now in
     let at : ℕ = c.args.at in
     let p = looped table at _ c.requires.within c.requires.sound c.requires.kind refl in
     record { within = p.test_within; sound = p.test; room = omega (arith, p.whole) }
 
-pub while-statement-append-requires-2 : goal.while-statement-append-requires-2
-while-statement-append-requires-2 t c =
+pub while_statement-append-requires-2 : goal.while_statement-append-requires-2
+while_statement-append-requires-2 t c =
     let table : List Record = c.args.table.now in
     let at : ℕ = c.args.at in
     let p = looped table at c.expression-body.result c.requires.within c.requires.sound c.requires.kind
     c.expression-body.ensures.next in
     omega (arith, p.whole, p.some)
 
-pub while-statement-statement-next-requires : goal.while-statement-statement-next-requires
-while-statement-statement-next-requires t c =
+pub while_statement-statement-next-requires : goal.while_statement-statement-next-requires
+while_statement-statement-next-requires t c =
     let table : List Record = c.args.table.now in
     let at : ℕ = c.args.at in
     let p = looped table at c.expression-body.result c.requires.within c.requires.sound c.requires.kind
     c.expression-body.ensures.next in
     (omega (arith, p.body_within), (p.body_within, (p.body, (omega arith, omega (arith, p.whole, p.some)))))
 
-pub while-statement-append-requires-3 : goal.while-statement-append-requires-3
-while-statement-append-requires-3 t c =
+pub while_statement-append-requires-3 : goal.while_statement-append-requires-3
+while_statement-append-requires-3 t c =
     let table : List Record = c.args.table.now in
     let at : ℕ = c.args.at in
     let p = looped table at c.expression-body.result c.requires.within c.requires.sound c.requires.kind
     c.expression-body.ensures.next in
     omega (arith, p.whole, p.some)
 
-pub while-statement-append-requires-4 : goal.while-statement-append-requires-4
-while-statement-append-requires-4 t c =
+pub while_statement-append-requires-4 : goal.while_statement-append-requires-4
+while_statement-append-requires-4 t c =
     let table : List Record = c.args.table.now in
     let at : ℕ = c.args.at in
     let p = looped table at c.expression-body.result c.requires.within c.requires.sound c.requires.kind
     c.expression-body.ensures.next in
     omega (arith, p.whole, p.some)
 
-pub while-statement-append-literal-requires : goal.while-statement-append-literal-requires
-while-statement-append-literal-requires t c =
+pub while_statement-append_literal-requires : goal.while_statement-append_literal-requires
+while_statement-append_literal-requires t c =
     let table : List Record = c.args.table.now in
     let at : ℕ = c.args.at in
     let p = looped table at c.expression-body.result c.requires.within c.requires.sound c.requires.kind
     c.expression-body.ensures.next in
     omega (arith, p.whole, p.some)
 
-pub while-statement-returns : goal.while-statement-returns
-while-statement-returns t c =
+pub while_statement-returns : goal.while_statement-returns
+while_statement-returns t c =
     let table : List Record = c.args.table.now in
     let at : ℕ = c.args.at in
     let globals : List ℕ = reverse c.args.globals.now in
@@ -169,7 +169,7 @@ while-statement-returns t c =
           (long c.args.code.now) (long c.expression-body.new.code ∙ sym c.len-test.ensures)
           (long c.append-2.new.code) (long c.append-4.new.code)
           c.append.ensures.items tested c.append-2.ensures.items c.statement-next.ensures.items
-          c.append-3.ensures.items back c.patch-jz.ensures.items c.append-literal.ensures.items);
+          c.append-3.ensures.items back c.patch_jz.ensures.items c.append_literal.ensures.items);
       longer = omega arith;
       bound = omega (arith, p.whole, p.some);
       capacity = omega arith;
@@ -192,26 +192,26 @@ block-statements-next-requires t c =
     let table : List Record = c.args.table.now in
     let at : ℕ = c.args.at in
     let k : ℕ = (get_or table at no_record).a in
-    let p = blocked table at k c.statement-count.result (at + 1 + k) no_record c.requires.within c.requires.sound
-    c.requires.kind refl c.statement-count.ensures refl in
+    let p = blocked table at k c.statement_count.result (at + 1 + k) no_record c.requires.within c.requires.sound
+    c.requires.kind refl c.statement_count.ensures refl in
     (omega (arith, p.within), (p.within, (p.others, (omega arith, omega (arith, p.whole)))))
 
-pub block-append-pops-requires : goal.block-append-pops-requires
-block-append-pops-requires t c =
+pub block-append_pops-requires : goal.block-append_pops-requires
+block-append_pops-requires t c =
     let table : List Record = c.args.table.now in
     let at : ℕ = c.args.at in
     let k : ℕ = (get_or table at no_record).a in
-    let p = blocked table at k c.statement-count.result (at + 1 + k) no_record c.requires.within c.requires.sound
-    c.requires.kind refl c.statement-count.ensures refl in
+    let p = blocked table at k c.statement_count.result (at + 1 + k) no_record c.requires.within c.requires.sound
+    c.requires.kind refl c.statement_count.ensures refl in
     omega (arith, p.whole)
 
-pub block-append-literal-requires : goal.block-append-literal-requires
-block-append-literal-requires t c =
+pub block-append_literal-requires : goal.block-append_literal-requires
+block-append_literal-requires t c =
     let table : List Record = c.args.table.now in
     let at : ℕ = c.args.at in
     let k : ℕ = (get_or table at no_record).a in
-    let p = blocked table at k c.statement-count.result (at + 1 + k) no_record c.requires.within c.requires.sound
-    c.requires.kind refl c.statement-count.ensures refl in
+    let p = blocked table at k c.statement_count.result (at + 1 + k) no_record c.requires.within c.requires.sound
+    c.requires.kind refl c.statement_count.ensures refl in
     omega (arith, p.whole)
 
 pub block-returns : goal.block-returns
@@ -224,10 +224,10 @@ block-returns t c =
     let scope : List ℕ = contents c.args.scope.now in
     let before : List Instruction = vec_items c.args.code.now in
     let k : ℕ = (get_or table at no_record).a in
-    let p = blocked table at k c.statement-count.result (at + 1 + k) no_record c.requires.within c.requires.sound
-    c.requires.kind refl c.statement-count.ensures refl in
+    let p = blocked table at k c.statement_count.result (at + 1 + k) no_record c.requires.within c.requires.sound
+    c.requires.kind refl c.statement_count.ensures refl in
     let ds : List VariableDeclaration = variables_at table (at + 1) k in
-    let ss : Statements = statements_at table (at + 1 + k) c.statement-count.result in
+    let ss : Statements = statements_at table (at + 1 + k) c.statement_count.result in
     let mark : c.height-mark.result ≡ c.args.scope.now.height = c.height-mark.ensures in
     let scope-long : length scope ≡ c.height-mark.result = length-contents c.args.scope.now (omega arith) ∙ sym mark in
     let low : c.height-mark.result ≤ c.statements-next.new.scope.height = omega arith in
@@ -240,7 +240,7 @@ block-returns t c =
     record {
       items = rw p.is (block-code globals functions leave (reverse scope) at ds ss before _ _ _ _
           (vec_len c.args.code.now) (vec_len c.enter.new.code) k c.enter.ensures.len p.many
-          c.enter.ensures.items inside c.append-pops.ensures.items c.append-literal.ensures.items);
+          c.enter.ensures.items inside c.append_pops.ensures.items c.append_literal.ensures.items);
       longer = omega arith;
       bound = omega (arith, p.whole);
       capacity = omega arith;
@@ -270,8 +270,8 @@ statement-expression-requires t c =
     let at : ℕ = c.args.at in
     let p = simple-at table at c.requires.within c.requires.sound
     (simple-kind table at c.requires.within c.requires.sound
-    (λ e. c.in-default.not-Return (c.node-kind.ensures ∙ e)) (λ e. c.in-default.not-If (c.node-kind.ensures ∙ e))
-    (λ e. c.in-default.not-While (c.node-kind.ensures ∙ e)) (λ e. c.in-default.not-Block (c.node-kind.ensures ∙ e))) in
+    (λ e. c.in_default.not-Return (c.node_kind.ensures ∙ e)) (λ e. c.in_default.not-If (c.node_kind.ensures ∙ e))
+    (λ e. c.in_default.not-While (c.node_kind.ensures ∙ e)) (λ e. c.in_default.not-Block (c.node_kind.ensures ∙ e))) in
     record { within = p.0.test_within; sound = p.0.test; room = omega (arith, p.0.whole) }
 
 pub statement-returns-in-Return : goal.statement-returns-in-Return
@@ -299,8 +299,8 @@ statement-returns-in-Return t c =
       next = omega (arith, p.0.whole);
     }
 
-pub statement-returns-in-default : goal.statement-returns-in-default
-statement-returns-in-default t c =
+pub statement-returns-in_default : goal.statement-returns-in_default
+statement-returns-in_default t c =
     let table : List Record = c.args.table.now in
     let at : ℕ = c.args.at in
     let globals : List ℕ = reverse c.args.globals.now in
@@ -310,10 +310,10 @@ statement-returns-in-default t c =
     let before : List Instruction = vec_items c.args.code.now in
     let p = simple-at table at c.requires.within c.requires.sound
     (simple-kind table at c.requires.within c.requires.sound
-    (λ e. c.in-default.not-Return (c.node-kind.ensures ∙ e)) (λ e. c.in-default.not-If (c.node-kind.ensures ∙ e))
-    (λ e. c.in-default.not-While (c.node-kind.ensures ∙ e)) (λ e. c.in-default.not-Block (c.node-kind.ensures ∙ e))) in
+    (λ e. c.in_default.not-Return (c.node_kind.ensures ∙ e)) (λ e. c.in_default.not-If (c.node_kind.ensures ∙ e))
+    (λ e. c.in_default.not-While (c.node_kind.ensures ∙ e)) (λ e. c.in_default.not-Block (c.node_kind.ensures ∙ e))) in
     let value = under _ _ (λ l. expression_code globals functions (expression_at table (at + 1)) (reverse l)) _ _
-    c.expression.ensures.items c.live-in-default.ensures in
+    c.expression.ensures.items c.live-in_default.ensures in
     record {
       items = rw p.1 value;
       longer = omega arith;

@@ -4,8 +4,8 @@ use Rattle.translator.proofs.statements.+block_if_statement_statement_statements
 abbrev pub decreases-block : goal.decreases-block
 decreases-block l = 3 * (length l.table.now - l.at)
 
-abbrev pub decreases-if-statement : goal.decreases-if-statement
-decreases-if-statement l = 3 * (length l.table.now - l.at)
+abbrev pub decreases-if_statement : goal.decreases-if_statement
+decreases-if_statement l = 3 * (length l.table.now - l.at)
 
 abbrev pub decreases-statement : goal.decreases-statement
 decreases-statement l = 3 * (length l.table.now - l.at) + 1
@@ -13,5 +13,5 @@ decreases-statement l = 3 * (length l.table.now - l.at) + 1
 abbrev pub decreases-statements : goal.decreases-statements
 decreases-statements l = 3 * (length l.table.now - l.at) + 2
 
-abbrev pub decreases-while-statement : goal.decreases-while-statement
-decreases-while-statement l = 3 * (length l.table.now - l.at)
+abbrev pub decreases-while_statement : goal.decreases-while_statement
+decreases-while_statement l = 3 * (length l.table.now - l.at)

@@ -1,4 +1,4 @@
-use Rattle.std.proofs.Common.{◌≡◌, ℕ, ◌+◌, ◌-◌, ◌<◌, List, [], ◌∷◌, ◌++◌, get_or, ℤ, vec_items, sym, refl, ap, ◌∙◌, arith, w32, SFits, rules}
+use Rattle.std.proofs.Common.{◌+◌, ◌-◌, ◌<◌, List, [], ◌∷◌, ◌++◌, get_or, ℤ, vec_items, ap, ◌∙◌, arith, w32, SFits, rules}
 use Rattle.std.proofs.lemmas.Int.{to_z-of_z}
 use Rattle.stack.specs.Store.{capacity}
 use Rattle.stack.proofs.Contents.{height-pushed, contents-pushed, capacity-pushed}
@@ -44,7 +44,7 @@ returns t c =
       height = omega (arith, h, c.enter.ensures.height);
       store = c.enter.ensures.store ∙ s;
       items = local-words _ _ _ ds es p.is c.args.place _ _ _
-          (c.append-literal.ensures.items
+          (c.append_literal.ensures.items
           ∙ ap (λ (x : ℤ). vec_items c.args.code.now ++ op c.args.place (Lit x) ∷ []) (to_z-of_z w32 z f))
           c.enter.ensures.items;
       len = omega arith;

@@ -1,17 +1,17 @@
-use Rattle.std.proofs.Common.{◌≡◌, ℕ, ◌+◌, ◌-◌, ◌<◌, ◌≤◌, List, ◌∷◌, map, reverse, length, get_or, take, drop, ℤ, pos, sym, refl, ap, ◌∙◌, arith, w32, SFits, rules}
+use Rattle.std.proofs.Common.{ℕ, ◌+◌, ◌-◌, ◌<◌, List, map, reverse, length, get_or, take, drop, ℤ, pos, sym, refl, ap, ◌∙◌, arith, w32, SFits, rules}
 use Rattle.std.proofs.lemmas.Int.{to_z-of_z}
 use Rattle.script.specs.declared.record.Record.{Record}
 use Rattle.syntax.specs.Syntax.{VariableDeclaration, name_of}
 use Rattle.syntax.specs.Trees.{no_record}
 use Rattle.syntax.specs.Typed.{variables_at}
-use Rattle.syntax.proofs.Statements.{Declared, declared-first}
+use Rattle.syntax.proofs.Statements.{declared-first}
 use Rattle.treerun.specs.TreeRun.{State, bind_parameters}
 use Rattle.walk.specs.Lent.{lent, state, pushed}
 use Rattle.walk.proofs.States.{parameter-pushed}
 use Rattle.walk.proofs.bind.+bind.Goals as goal
 
-pub offset-bounds-table-at : goal.offset-bounds-table-at
-offset-bounds-table-at t c =
+pub offset_bounds-table-at : goal.offset_bounds-table-at
+offset_bounds-table-at t c =
     let h : c.args.at < length c.args.table.now =
     (declared-first c.args.table.now c.args.at c.args.count no_record (omega arith)
     c.requires.plain).within in
@@ -21,8 +21,8 @@ pub bounds-table-at : goal.bounds-table-at
 bounds-table-at t c = (declared-first c.args.table.now c.args.at c.args.count no_record (omega arith)
     c.requires.plain).within
 
-pub overflow-add-at : goal.overflow-add-at
-overflow-add-at t c =
+pub overflow_add-at : goal.overflow_add-at
+overflow_add-at t c =
     let h : c.args.at < length c.args.table.now =
     (declared-first c.args.table.now c.args.at c.args.count no_record (omega arith)
     c.requires.plain).within in

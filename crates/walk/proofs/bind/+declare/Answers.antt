@@ -1,18 +1,18 @@
-use Rattle.std.proofs.Common.{◌≡◌, ℕ, ◌+◌, ◌-◌, ◌<◌, ◌≤◌, List, ◌∷◌, length, get_or, ℤ, sym, refl, ap, ◌∙◌, arith, w32, SFits, rules}
+use Rattle.std.proofs.Common.{ℕ, ◌+◌, ◌-◌, ◌<◌, List, length, get_or, ℤ, sym, refl, ap, ◌∙◌, arith, w32, SFits, rules}
 use Rattle.std.proofs.lemmas.Int.{to_z-of_z}
 use Rattle.kinds.specs.Counter.{counter}
 use Rattle.script.specs.declared.record.Record.{Record}
 use Rattle.syntax.specs.Syntax.{VariableDeclaration}
 use Rattle.syntax.specs.Trees.{no_record}
 use Rattle.syntax.specs.Typed.{variables_at}
-use Rattle.syntax.proofs.Statements.{Declared, declared-first}
+use Rattle.syntax.proofs.Statements.{declared-first}
 use Rattle.treerun.specs.TreeRun.{State, bind_variables}
 use Rattle.walk.specs.Lent.{lent, state, pushed}
 use Rattle.walk.proofs.States.{variable-pushed}
 use Rattle.walk.proofs.bind.+declare.Goals as goal
 
-pub offset-bounds-table-at : goal.offset-bounds-table-at
-offset-bounds-table-at t c =
+pub offset_bounds-table-at : goal.offset_bounds-table-at
+offset_bounds-table-at t c =
     let h : c.args.at < length c.args.table.now =
     (declared-first c.args.table.now c.args.at c.args.count no_record (omega arith)
     c.requires.plain).within in
@@ -22,8 +22,8 @@ pub bounds-table-at : goal.bounds-table-at
 bounds-table-at t c = (declared-first c.args.table.now c.args.at c.args.count no_record (omega arith)
     c.requires.plain).within
 
-pub overflow-add-at : goal.overflow-add-at
-overflow-add-at t c =
+pub overflow_add-at : goal.overflow_add-at
+overflow_add-at t c =
     let h : c.args.at < length c.args.table.now =
     (declared-first c.args.table.now c.args.at c.args.count no_record (omega arith)
     c.requires.plain).within in

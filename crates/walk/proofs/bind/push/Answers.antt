@@ -1,6 +1,5 @@
-use Rattle.std.proofs.Common.{◌≡◌, List, set, ℤ, sym, refl, ap, ◌∙◌, w32, SFits, rules}
+use Rattle.std.proofs.Common.{refl, w32, SFits, rules}
 use Rattle.std.proofs.lemmas.Int.{to_z-of_z}
-use Rattle.walk.specs.Lent.{lent, state}
 use Rattle.walk.proofs.States.{pushed-is}
 use Rattle.walk.proofs.bind.push.Goals as goal
 

@@ -1,4 +1,4 @@
-use Rattle.std.proofs.Common.{◌≡◌, ℕ, ◌+◌, ◌-◌, ◌<◌, ◌≤◌, List, ◌∷◌, length, get_or, Option, sym, refl, ap, ◌∙◌, subst, arith, rules}
+use Rattle.std.proofs.Common.{ℕ, ◌<◌, List, length, get_or, Option, sym, refl, ap, ◌∙◌, subst, arith, rules}
 use Rattle.script.specs.declared.rows.Sort.TheVariants.{Declaration as DeclarationSort}
 use Rattle.syntax.specs.Syntax.{Function, Declaration, function_named, functions_of}
 use Rattle.syntax.specs.Trees.{no_record}
@@ -19,15 +19,15 @@ pub bounds-table-at : goal.bounds-table-at
 bounds-table-at t c = (firsts c.args.table.now c.args.at c.args.count _ DeclarationSort (omega arith)
     c.requires refl).within
 
-pub offset-bounds-table-at : goal.offset-bounds-table-at
-offset-bounds-table-at t c =
+pub offset_bounds-table-at : goal.offset_bounds-table-at
+offset_bounds-table-at t c =
     let h : c.args.at < length c.args.table.now =
     (firsts c.args.table.now c.args.at c.args.count _ DeclarationSort (omega arith)
     c.requires refl).within in
     search rules
 
-pub overflow-add-at : goal.overflow-add-at
-overflow-add-at t c =
+pub overflow_add-at : goal.overflow_add-at
+overflow_add-at t c =
     let h : c.args.at < length c.args.table.now =
     (firsts c.args.table.now c.args.at c.args.count _ DeclarationSort (omega arith)
     c.requires refl).within in
@@ -68,16 +68,16 @@ returns-else-name-node t c =
     let z = ap (λ (ds : List Declaration). function_named c.args.name (functions_of ds)) p.is ∙ rw y refl in
     subst (λ (o : Option Function). Finds c.args.table.now o c.among.result) (sym z) c.among.ensures
 
-pub among-requires-in-default : goal.among-requires-in-default
-among-requires-in-default t c =
+pub among-requires-in_default : goal.among-requires-in_default
+among-requires-in_default t c =
     let p = first-variable c.args.table.now c.args.at c.args.count no_record (omega arith) c.requires
-    (λ e. c.in-default.not-Function (c.node-of.ensures ∙ e)) in
+    (λ e. c.in_default.not-Function (c.node_of.ensures ∙ e)) in
     (omega arith, p.others)
 
-pub returns-in-default : goal.returns-in-default
-returns-in-default t c =
+pub returns-in_default : goal.returns-in_default
+returns-in_default t c =
     let p = first-variable c.args.table.now c.args.at c.args.count no_record (omega arith) c.requires
-    (λ e. c.in-default.not-Function (c.node-of.ensures ∙ e)) in
+    (λ e. c.in_default.not-Function (c.node_of.ensures ∙ e)) in
     let z = ap (λ (ds : List Declaration). function_named c.args.name (functions_of ds)) p.is in
-    subst (λ (o : Option Function). Finds c.args.table.now o c.among-in-default.result) (sym z)
-    c.among-in-default.ensures
+    subst (λ (o : Option Function). Finds c.args.table.now o c.among-in_default.result) (sym z)
+    c.among-in_default.ensures

@@ -1,4 +1,4 @@
-use Rattle.std.proofs.Common.{◌≡◌, Option, sym, refl, ap, ◌∙◌, subst, arith}
+use Rattle.std.proofs.Common.{Option, sym, refl, ap, subst}
 use Rattle.syntax.specs.Syntax.{Function, Program, function_named, functions_of}
 use Rattle.syntax.specs.Trees.{no_record}
 use Rattle.syntax.proofs.Declarations.{programmed}

@@ -1,9 +1,9 @@
-use Rattle.std.proofs.Common.{◌≡◌, ℕ, ◌+◌, ◌-◌, ◌<◌, ◌≤◌, List, ◌∷◌, length, get_or, ℤ, sym, refl, ap, ◌∙◌, arith, w32, SFits, rules}
+use Rattle.std.proofs.Common.{◌≡◌, ℕ, ◌+◌, ◌-◌, ◌<◌, List, length, get_or, ℤ, sym, refl, ap, ◌∙◌, arith, w32, SFits, rules}
 use Rattle.std.proofs.lemmas.Int.{to_z-of_z}
 use Rattle.kinds.specs.Counter.{counter}
 use Rattle.script.specs.declared.record.Record.{Record}
 use Rattle.script.specs.declared.rows.Sort.TheVariants.{Declaration as DeclarationSort}
-use Rattle.syntax.specs.Syntax.{VariableDeclaration, declare, Declaration, variables_of}
+use Rattle.syntax.specs.Syntax.{VariableDeclaration, Declaration, variables_of}
 use Rattle.syntax.specs.Trees.{no_record, pieces, sizes}
 use Rattle.syntax.specs.Typed.{declarations_at}
 use Rattle.syntax.proofs.Expressions.{firsts}
@@ -29,15 +29,15 @@ returns-then-count-eq0 t c =
       next = omega arith;
     }
 
-pub offset-bounds-table-at : goal.offset-bounds-table-at
-offset-bounds-table-at t c =
+pub offset_bounds-table-at : goal.offset_bounds-table-at
+offset_bounds-table-at t c =
     let h : c.args.at < length c.args.table.now =
     (firsts c.args.table.now c.args.at c.args.count _ DeclarationSort (omega arith)
     c.requires.sound refl).within in
     search rules
 
-pub overflow-add-at : goal.overflow-add-at
-overflow-add-at t c =
+pub overflow_add-at : goal.overflow_add-at
+overflow_add-at t c =
     let h : c.args.at < length c.args.table.now =
     (firsts c.args.table.now c.args.at c.args.count _ DeclarationSort (omega arith)
     c.requires.sound refl).within in
@@ -80,22 +80,22 @@ returns-in-Function t c =
 pub push-requires : goal.push-requires
 push-requires t c =
     let p = first-variable c.args.table.now c.args.at c.args.count no_record (omega arith) c.requires.sound
-    (λ e. c.in-default.not-Function (c.node-of.ensures ∙ e)) in
+    (λ e. c.in_default.not-Function (c.node_of.ensures ∙ e)) in
     let l = ap (λ (ds : List Declaration). length (variables_of ds)) p.is in
     record { names = omega (arith, c.requires.names); words = omega (arith, c.requires.words) }
 
-pub globals-requires-in-default : goal.globals-requires-in-default
-globals-requires-in-default t c =
+pub globals-requires-in_default : goal.globals-requires-in_default
+globals-requires-in_default t c =
     let p = first-variable c.args.table.now c.args.at c.args.count no_record (omega arith) c.requires.sound
-    (λ e. c.in-default.not-Function (c.node-of.ensures ∙ e)) in
+    (λ e. c.in_default.not-Function (c.node_of.ensures ∙ e)) in
     let l = ap (λ (ds : List Declaration). length (variables_of ds)) p.is in
     let b = c.push.ensures.progress.count in
     (omega arith, (p.others, (omega (arith, c.requires.names), omega (arith, c.requires.words))))
 
-pub returns-in-default : goal.returns-in-default
-returns-in-default t c =
+pub returns-in_default : goal.returns-in_default
+returns-in_default t c =
     let p = first-variable c.args.table.now c.args.at c.args.count no_record (omega arith) c.requires.sound
-    (λ e. c.in-default.not-Function (c.node-of.ensures ∙ e)) in
+    (λ e. c.in_default.not-Function (c.node_of.ensures ∙ e)) in
     let l = ap (λ (ds : List Declaration). length (variables_of ds)) p.is in
     let b = c.push.ensures.progress.count in
     let r : Record = get_or c.args.table.now c.args.at no_record in
@@ -105,14 +105,14 @@ returns-in-default t c =
     record {
       bound = λ bays.
           let σ : State ℤ = state (lent c.args.names.now c.args.words.now bays c.args.progress.now) in
-          c.globals-in-default.ensures.bound bays
+          c.globals-in_default.ensures.bound bays
           ∙ (ap (bind_variables counter ds) (c.push.ensures.bound bays)
           ∙ (ap (λ (z : ℤ). bind_variables counter ds (pushed r.a z σ)) (to_z-of_z w32 r.v f)
           ∙ (variable-pushed c.args.at r.a r.v ds σ
           ∙ ap (λ (ds : List Declaration). bind_variables counter (variables_of ds) σ) (sym p.is))));
       progress = record {
-        count = omega (arith, c.globals-in-default.ensures.progress.count);
-        fuel = c.globals-in-default.ensures.progress.fuel ∙ c.push.ensures.progress.fuel;
+        count = omega (arith, c.globals-in_default.ensures.progress.count);
+        fuel = c.globals-in_default.ensures.progress.fuel ∙ c.push.ensures.progress.fuel;
       };
-      next = c.globals-in-default.ensures.next ∙ sym p.whole;
+      next = c.globals-in_default.ensures.next ∙ sym p.whole;
     }

@@ -1,4 +1,4 @@
-use Rattle.std.proofs.Common.{◌≡◌, ℕ, suc, ◌+◌, ◌-◌, ◌<◌, ◌≤◌, true, false, List, ◌∷◌, reverse, length, get_or, take, set, ℤ, pos, sym, refl, ap, ◌∙◌, add-one, arith, length-set, w32, SFits, to_z, of_z, rules}
+use Rattle.std.proofs.Common.{◌≡◌, ℕ, suc, ◌+◌, ◌-◌, ◌<◌, true, false, List, ◌∷◌, reverse, length, get_or, take, set, ℤ, pos, sym, refl, ap, ◌∙◌, add-one, arith, length-set, w32, SFits, to_z, of_z, rules}
 use Rattle.std.proofs.lemmas.Int.{to_z-of_z}
 use Rattle.std.proofs.lemmas.Result.{err_from_is_err_and}
 use Rattle.kinds.specs.Counter.{counter}
@@ -8,7 +8,7 @@ use Rattle.syntax.specs.Syntax.{no_argument, no_statement}
 use Rattle.syntax.specs.Trees.{tree_at, pieces, sizes, no_record}
 use Rattle.syntax.specs.Typed.{arguments_at, statements_at, function_of, node_at}
 use Rattle.syntax.proofs.Shapes.{simple-kind}
-use Rattle.treerun.specs.TreeRun.{State, Outcome, value, store, leave_block, leave_call}
+use Rattle.treerun.specs.TreeRun.{State, value, store, leave_block, leave_call}
 use Rattle.treerun.specs.Laws.{arguments_run, statement_run, statements_run}
 use Rattle.treerun.proofs.ByRules.{by-rules}
 use Rattle.walk.specs.declared.state.Stop.TheVariants.{Returned, Ended}
@@ -29,32 +29,32 @@ expression-expression-requires t c =
     let p = two_part_ready _ _ _ _ c.requires _ refl _ (sym c.in-TwoPart.ensures) in
     (omega (arith, p.first.part.within), p.first)
 
-pub expression-returns-in-err-x : goal.expression-returns-in-err-x
-expression-returns-in-err-x t c =
+pub expression-returns-in_err-x-in-TwoPart : goal.expression-returns-in_err-x-in-TwoPart
+expression-returns-in_err-x-in-TwoPart t c =
     let p = two_part_ready _ _ _ _ c.requires _ refl _ (sym c.in-TwoPart.ensures) in
-    let k = c.in-err-x.ensures in
-    passes _ _ _ (err_from_is_err_and c.from-residual.result c.from-residual.ensures.1) (omega arith)
+    let k = c.in_err-x-in-TwoPart.ensures in
+    passes _ _ _ (err_from_is_err_and c.from_residual.result c.from_residual.ensures.1) (omega arith)
     (omega arith) k
     (rw p.is ((by-rules (setting c.args.table.now c.args.calls.depth)).of_binary _ _ _ _ _ _
     ∙ stops _ _ _ k.runs))
 
 pub expression-expression-requires-in-TwoPart : goal.expression-expression-requires-in-TwoPart
 expression-expression-requires-in-TwoPart t c =
-    let k = c.in-ok-x.ensures in
-    let p = two_part_ready _ _ _ _ c.requires c.in-ok-x.x.next k.ends _
+    let k = c.in_ok-x-in-TwoPart.ensures in
+    let p = two_part_ready _ _ _ _ c.requires c.in_ok-x-in-TwoPart.x.next k.ends _
     (sym c.in-TwoPart.ensures) in
     let r = p.second (lent c.expression.new.names c.expression.new.words
     (table_bays c.expression.new.bays) c.expression.new.progress)
     (record { bindings = k.kept; names = omega arith; words = omega arith }) in
     (omega (arith, r.part.within, k.ends), r)
 
-pub expression-returns-in-err-y : goal.expression-returns-in-err-y
-expression-returns-in-err-y t c =
-    let k = c.in-ok-x.ensures in
-    let j = c.in-err-y.ensures in
-    let p = two_part_ready _ _ _ _ c.requires c.in-ok-x.x.next k.ends _
+pub expression-returns-in_err-y-in-TwoPart : goal.expression-returns-in_err-y-in-TwoPart
+expression-returns-in_err-y-in-TwoPart t c =
+    let k = c.in_ok-x-in-TwoPart.ensures in
+    let j = c.in_err-y-in-TwoPart.ensures in
+    let p = two_part_ready _ _ _ _ c.requires c.in_ok-x-in-TwoPart.x.next k.ends _
     (sym c.in-TwoPart.ensures) in
-    passes _ _ _ (err_from_is_err_and c.from-residual-in-err-y.result c.from-residual-in-err-y.ensures.1)
+    passes _ _ _ (err_from_is_err_and c.from_residual-in_err-y-in-TwoPart.result c.from_residual-in_err-y-in-TwoPart.ensures.1)
     (omega (arith, k.kept)) k.fuel j
     (rw p.is ((by-rules (setting c.args.table.now c.args.calls.depth)).of_binary _ _ _ _ _ _
     ∙ (goes_on _ _ _ k.runs ∙ stops _ _ _ j.runs)))
@@ -64,11 +64,11 @@ expression-expression-requires-in-Assignment t c =
     let p = assign-ready _ _ _ _ c.requires (sym c.in-Assignment.ensures) in
     (omega (arith, p.part.part.within), p.part)
 
-pub expression-returns-in-err-x-2 : goal.expression-returns-in-err-x-2
-expression-returns-in-err-x-2 t c =
+pub expression-returns-in_err-x-in-Assignment : goal.expression-returns-in_err-x-in-Assignment
+expression-returns-in_err-x-in-Assignment t c =
     let p = assign-ready _ _ _ _ c.requires (sym c.in-Assignment.ensures) in
-    let k = c.in-err-x-2.ensures in
-    passes _ _ _ (err_from_is_err_and c.from-residual-in-err-x-2.result c.from-residual-in-err-x-2.ensures.1)
+    let k = c.in_err-x-in-Assignment.ensures in
+    passes _ _ _ (err_from_is_err_and c.from_residual-in_err-x-in-Assignment.result c.from_residual-in_err-x-in-Assignment.ensures.1)
     (omega arith) (omega arith) k
     (rw p.is ((by-rules (setting c.args.table.now c.args.calls.depth)).of_assign _ _ _ _ _
     ∙ stops _ _ _ k.runs))
@@ -78,23 +78,23 @@ expression-expression-requires-in-BayRead t c =
     let p = bay-read-ready _ _ _ _ c.requires (sym c.in-BayRead.ensures) in
     (omega (arith, p.part.part.within), p.part)
 
-pub expression-returns-in-err-x-3 : goal.expression-returns-in-err-x-3
-expression-returns-in-err-x-3 t c =
+pub expression-returns-in_err-x-in-BayRead : goal.expression-returns-in_err-x-in-BayRead
+expression-returns-in_err-x-in-BayRead t c =
     let p = bay-read-ready _ _ _ _ c.requires (sym c.in-BayRead.ensures) in
-    let k = c.in-err-x-3.ensures in
-    passes _ _ _ (err_from_is_err_and c.from-residual-in-err-x-3.result c.from-residual-in-err-x-3.ensures.1)
+    let k = c.in_err-x-in-BayRead.ensures in
+    passes _ _ _ (err_from_is_err_and c.from_residual-in_err-x-in-BayRead.result c.from_residual-in_err-x-in-BayRead.ensures.1)
     (omega arith) (omega arith) k
     (rw p.is ((by-rules (setting c.args.table.now c.args.calls.depth)).of_bay_read _ _ _ _
     ∙ stops _ _ _ k.runs))
 
-pub expression-returns-in-err-word : goal.expression-returns-in-err-word
-expression-returns-in-err-word t c =
+pub expression-returns-in_err-word-in-BayRead : goal.expression-returns-in_err-word-in-BayRead
+expression-returns-in_err-word-in-BayRead t c =
     let p = bay-read-ready _ _ _ _ c.requires (sym c.in-BayRead.ensures) in
-    let k = c.in-ok-x-3.ensures in
-    let f : SFits w32 c.in-ok-x-3.x.word = search rules in
-    let b = simp to_z-of_z at c.in-err-word.ensures in
-    refuses _ _ _ (err_from_is_err_and c.from-residual-in-err-word.result
-    c.from-residual-in-err-word.ensures.1) k.fuel (omega (arith, k.kept))
+    let k = c.in_ok-x-in-BayRead.ensures in
+    let f : SFits w32 c.in_ok-x-in-BayRead.x.word = search rules in
+    let b = simp to_z-of_z at c.in_err-word-in-BayRead.ensures in
+    refuses _ _ _ (err_from_is_err_and c.from_residual-in_err-word-in-BayRead.result
+    c.from_residual-in_err-word-in-BayRead.ensures.1) k.fuel (omega (arith, k.kept))
     (omega (arith, k.kept, c.requires.room.names)) (omega (arith, k.kept, c.requires.room.words))
     (rw p.is ((by-rules (setting c.args.table.now c.args.calls.depth)).of_bay_read _ _ _ _
     ∙ (goes_on _ _ _ k.runs ∙ reads c.args.at _
@@ -106,48 +106,48 @@ expression-expression-requires-in-BayWrite t c =
     let p = bay_write_ready _ _ _ _ c.requires _ refl (sym c.in-BayWrite.ensures) in
     (omega (arith, p.first.part.within), p.first)
 
-pub expression-returns-in-err-x-4 : goal.expression-returns-in-err-x-4
-expression-returns-in-err-x-4 t c =
+pub expression-returns-in_err-x-in-BayWrite : goal.expression-returns-in_err-x-in-BayWrite
+expression-returns-in_err-x-in-BayWrite t c =
     let p = bay_write_ready _ _ _ _ c.requires _ refl (sym c.in-BayWrite.ensures) in
-    let k = c.in-err-x-4.ensures in
-    passes _ _ _ (err_from_is_err_and c.from-residual-in-err-x-4.result c.from-residual-in-err-x-4.ensures.1)
+    let k = c.in_err-x-in-BayWrite.ensures in
+    passes _ _ _ (err_from_is_err_and c.from_residual-in_err-x-in-BayWrite.result c.from_residual-in_err-x-in-BayWrite.ensures.1)
     (omega arith) (omega arith) k
     (rw p.is ((by-rules (setting c.args.table.now c.args.calls.depth)).of_bay_write _ _ _ _ _
     ∙ stops _ _ _ k.runs))
 
 pub expression-expression-requires-in-BayWrite-2 : goal.expression-expression-requires-in-BayWrite-2
 expression-expression-requires-in-BayWrite-2 t c =
-    let k = c.in-ok-x-4.ensures in
-    let p = bay_write_ready _ _ _ _ c.requires c.in-ok-x-4.x.next k.ends
+    let k = c.in_ok-x-in-BayWrite.ensures in
+    let p = bay_write_ready _ _ _ _ c.requires c.in_ok-x-in-BayWrite.x.next k.ends
     (sym c.in-BayWrite.ensures) in
     let r = p.second (lent c.expression-in-BayWrite.new.names c.expression-in-BayWrite.new.words
     (table_bays c.expression-in-BayWrite.new.bays) c.expression-in-BayWrite.new.progress)
     (record { bindings = k.kept; names = omega arith; words = omega arith }) in
     (omega (arith, r.part.within, k.ends), r)
 
-pub expression-returns-in-err-y-2 : goal.expression-returns-in-err-y-2
-expression-returns-in-err-y-2 t c =
-    let k = c.in-ok-x-4.ensures in
-    let j = c.in-err-y-2.ensures in
-    let p = bay_write_ready _ _ _ _ c.requires c.in-ok-x-4.x.next k.ends
+pub expression-returns-in_err-y-in-BayWrite : goal.expression-returns-in_err-y-in-BayWrite
+expression-returns-in_err-y-in-BayWrite t c =
+    let k = c.in_ok-x-in-BayWrite.ensures in
+    let j = c.in_err-y-in-BayWrite.ensures in
+    let p = bay_write_ready _ _ _ _ c.requires c.in_ok-x-in-BayWrite.x.next k.ends
     (sym c.in-BayWrite.ensures) in
-    passes _ _ _ (err_from_is_err_and c.from-residual-in-err-y-2.result c.from-residual-in-err-y-2.ensures.1)
+    passes _ _ _ (err_from_is_err_and c.from_residual-in_err-y-in-BayWrite.result c.from_residual-in_err-y-in-BayWrite.ensures.1)
     (omega (arith, k.kept)) k.fuel j
     (rw p.is ((by-rules (setting c.args.table.now c.args.calls.depth)).of_bay_write _ _ _ _ _
     ∙ (goes_on _ _ _ k.runs ∙ stops _ _ _ j.runs)))
 
-pub expression-returns-in-err-word-2 : goal.expression-returns-in-err-word-2
-expression-returns-in-err-word-2 t c =
-    let k = c.in-ok-x-4.ensures in
-    let j = c.in-ok-y-2.ensures in
-    let p = bay_write_ready _ _ _ _ c.requires c.in-ok-x-4.x.next k.ends
+pub expression-returns-in_err-word-in-BayWrite : goal.expression-returns-in_err-word-in-BayWrite
+expression-returns-in_err-word-in-BayWrite t c =
+    let k = c.in_ok-x-in-BayWrite.ensures in
+    let j = c.in_ok-y-in-BayWrite.ensures in
+    let p = bay_write_ready _ _ _ _ c.requires c.in_ok-x-in-BayWrite.x.next k.ends
     (sym c.in-BayWrite.ensures) in
-    let f : SFits w32 c.in-ok-x-4.x.word = search rules in
-    let g : SFits w32 c.in-ok-y-2.y.word = search rules in
-    let b = simp to_z-of_z at c.in-err-word-2.ensures.answer in
-    let d = simp to_z-of_z at c.in-err-word-2.ensures.bays in
-    refuses _ _ _ (err_from_is_err_and c.from-residual-in-err-word-2.result
-    c.from-residual-in-err-word-2.ensures.1) (omega (arith, k.fuel, j.fuel))
+    let f : SFits w32 c.in_ok-x-in-BayWrite.x.word = search rules in
+    let g : SFits w32 c.in_ok-y-in-BayWrite.y.word = search rules in
+    let b = simp to_z-of_z at c.in_err-word-in-BayWrite.ensures.answer in
+    let d = simp to_z-of_z at c.in_err-word-in-BayWrite.ensures.bays in
+    refuses _ _ _ (err_from_is_err_and c.from_residual-in_err-word-in-BayWrite.result
+    c.from_residual-in_err-word-in-BayWrite.ensures.1) (omega (arith, k.fuel, j.fuel))
     (omega (arith, k.kept, j.kept))
     (omega (arith, k.kept, j.kept, c.requires.room.names)) (omega (arith, k.kept, j.kept, c.requires.room.words))
     (rw p.is ((by-rules (setting c.args.table.now c.args.calls.depth)).of_bay_write _ _ _ _ _
@@ -168,75 +168,75 @@ expression-returns-in-Number t c =
 pub expression-returns-in-Variable : goal.expression-returns-in-Variable
 expression-returns-in-Variable t c =
     let p = no-parts _ _ c.requires.part is.Variable (sym c.in-Variable.ensures) refl in
-    let f : SFits w32 c.word-of-word.result = search rules in
-    gives _ _ _ _ _ _ _ (to_z-of_z w32 c.word-of-word.result f ∙ c.word-of-word.ensures)
+    let f : SFits w32 c.word_of-word.result = search rules in
+    gives _ _ _ _ _ _ _ (to_z-of_z w32 c.word_of-word.result f ∙ c.word_of-word.ensures)
     (rw p.0 ((by-rules (setting c.args.table.now c.args.calls.depth)).of_variable _ _ _ _))
     (omega arith) refl p.1
 
-pub expression-returns-in-ok-y : goal.expression-returns-in-ok-y
-expression-returns-in-ok-y t c =
-    let k = c.in-ok-x.ensures in
-    let j = c.in-ok-y.ensures in
-    let p = two_part_ready _ _ _ _ c.requires c.in-ok-x.x.next k.ends _
+pub expression-returns-in_ok-y-in-TwoPart : goal.expression-returns-in_ok-y-in-TwoPart
+expression-returns-in_ok-y-in-TwoPart t c =
+    let k = c.in_ok-x-in-TwoPart.ensures in
+    let j = c.in_ok-y-in-TwoPart.ensures in
+    let p = two_part_ready _ _ _ _ c.requires c.in_ok-x-in-TwoPart.x.next k.ends _
     (sym c.in-TwoPart.ensures) in
-    let f : SFits w32 c.in-ok-x.x.word = search rules in
-    let g : SFits w32 c.in-ok-y.y.word = search rules in
+    let f : SFits w32 c.in_ok-x-in-TwoPart.x.word = search rules in
+    let g : SFits w32 c.in_ok-y-in-TwoPart.y.word = search rules in
     let h : SFits w32 c.apply-word.result = search rules in
     gives _ _ _ _ _ _ _ (to_z-of_z w32 c.apply-word.result h ∙ simp to_z-of_z at c.apply-word.ensures)
     (rw p.is ((by-rules (setting c.args.table.now c.args.calls.depth)).of_binary _ _ _ _ _ _
     ∙ (goes_on _ _ _ k.runs ∙ goes_on _ _ _ j.runs)))
     (omega (arith, k.fuel, j.fuel)) (j.kept ∙ k.kept) (j.ends ∙ p.ends)
 
-pub expression-returns-in-ok-x-2 : goal.expression-returns-in-ok-x-2
-expression-returns-in-ok-x-2 t c =
+pub expression-returns-in_ok-x-in-Assignment : goal.expression-returns-in_ok-x-in-Assignment
+expression-returns-in_ok-x-in-Assignment t c =
     let p = assign-ready _ _ _ _ c.requires (sym c.in-Assignment.ensures) in
-    let k = c.in-ok-x-2.ensures in
-    let f : SFits w32 c.in-ok-x-2.x.word = search rules in
+    let k = c.in_ok-x-in-Assignment.ensures in
+    let f : SFits w32 c.in_ok-x-in-Assignment.x.word = search rules in
     let a : ℕ = (get_or c.args.table.now c.args.at no_record).a in
     let b₀ : reverse (take c.expression-in-Assignment.new.progress.bound c.assign.new.words)
-    ≡ store a (to_z w32 (of_z w32 c.in-ok-x-2.x.word))
+    ≡ store a (to_z w32 (of_z w32 c.in_ok-x-in-Assignment.x.word))
     (reverse (take c.expression-in-Assignment.new.progress.bound c.expression-in-Assignment.new.names))
     (reverse (take c.expression-in-Assignment.new.progress.bound c.expression-in-Assignment.new.words)) =
     c.assign.ensures.bindings in
-    let b = rw (to_z-of_z w32 c.in-ok-x-2.x.word f) at b₀ in
+    let b = rw (to_z-of_z w32 c.in_ok-x-in-Assignment.x.word f) at b₀ in
     record {
       runs = rw p.is ((by-rules (setting c.args.table.now c.args.calls.depth)).of_assign _ _ _ _ _
           ∙ (goes_on _ _ _ k.runs
-          ∙ ap (value c.in-ok-x-2.x.word)
+          ∙ ap (value c.in_ok-x-in-Assignment.x.word)
           (assigned (lent c.expression-in-Assignment.new.names c.expression-in-Assignment.new.words
           (table_bays c.expression-in-Assignment.new.bays) c.expression-in-Assignment.new.progress)
-          c.assign.new.words _ c.in-ok-x-2.x.word b c.assign.ensures.behind)));
+          c.assign.new.words _ c.in_ok-x-in-Assignment.x.word b c.assign.ensures.behind)));
       fuel = k.fuel;
       kept = k.kept;
       ends = k.ends ∙ p.ends;
     }
 
-pub expression-returns-in-ok-word : goal.expression-returns-in-ok-word
-expression-returns-in-ok-word t c =
+pub expression-returns-in_ok-word-in-BayRead : goal.expression-returns-in_ok-word-in-BayRead
+expression-returns-in_ok-word-in-BayRead t c =
     let p = bay-read-ready _ _ _ _ c.requires (sym c.in-BayRead.ensures) in
-    let k = c.in-ok-x-3.ensures in
-    let f : SFits w32 c.in-ok-x-3.x.word = search rules in
-    let g : SFits w32 c.in-ok-word.word = search rules in
-    let b = simp to_z-of_z at c.in-ok-word.ensures in
-    gives _ _ _ _ _ _ _ (to_z-of_z w32 c.in-ok-word.word g)
+    let k = c.in_ok-x-in-BayRead.ensures in
+    let f : SFits w32 c.in_ok-x-in-BayRead.x.word = search rules in
+    let g : SFits w32 c.in_ok-word-in-BayRead.word = search rules in
+    let b = simp to_z-of_z at c.in_ok-word-in-BayRead.ensures in
+    gives _ _ _ _ _ _ _ (to_z-of_z w32 c.in_ok-word-in-BayRead.word g)
     (rw p.is ((by-rules (setting c.args.table.now c.args.calls.depth)).of_bay_read _ _ _ _
     ∙ (goes_on _ _ _ k.runs ∙ reads c.args.at _
     (lent c.expression-in-BayRead.new.names c.expression-in-BayRead.new.words
     (table_bays c.expression-in-BayRead.new.bays) c.expression-in-BayRead.new.progress) _ b)))
     k.fuel k.kept (k.ends ∙ p.ends)
 
-pub expression-returns-in-ok-word-2 : goal.expression-returns-in-ok-word-2
-expression-returns-in-ok-word-2 t c =
-    let k = c.in-ok-x-4.ensures in
-    let j = c.in-ok-y-2.ensures in
-    let p = bay_write_ready _ _ _ _ c.requires c.in-ok-x-4.x.next k.ends
+pub expression-returns-in_ok-word-in-BayWrite : goal.expression-returns-in_ok-word-in-BayWrite
+expression-returns-in_ok-word-in-BayWrite t c =
+    let k = c.in_ok-x-in-BayWrite.ensures in
+    let j = c.in_ok-y-in-BayWrite.ensures in
+    let p = bay_write_ready _ _ _ _ c.requires c.in_ok-x-in-BayWrite.x.next k.ends
     (sym c.in-BayWrite.ensures) in
-    let f : SFits w32 c.in-ok-x-4.x.word = search rules in
-    let g : SFits w32 c.in-ok-y-2.y.word = search rules in
-    let h : SFits w32 c.in-ok-word-2.word = search rules in
-    let b = simp to_z-of_z at c.in-ok-word-2.ensures.answer in
-    let d = simp to_z-of_z at c.in-ok-word-2.ensures.bays in
-    gives _ _ _ _ _ _ _ (to_z-of_z w32 c.in-ok-word-2.word h)
+    let f : SFits w32 c.in_ok-x-in-BayWrite.x.word = search rules in
+    let g : SFits w32 c.in_ok-y-in-BayWrite.y.word = search rules in
+    let h : SFits w32 c.in_ok-word-in-BayWrite.word = search rules in
+    let b = simp to_z-of_z at c.in_ok-word-in-BayWrite.ensures.answer in
+    let d = simp to_z-of_z at c.in_ok-word-in-BayWrite.ensures.bays in
+    gives _ _ _ _ _ _ _ (to_z-of_z w32 c.in_ok-word-in-BayWrite.word h)
     (rw p.is ((by-rules (setting c.args.table.now c.args.calls.depth)).of_bay_write _ _ _ _ _
     ∙ (goes_on _ _ _ k.runs ∙ (goes_on _ _ _ j.runs
     ∙ writes c.args.at _ (lent c.expression-in-BayWrite-2.new.names
@@ -244,11 +244,11 @@ expression-returns-in-ok-word-2 t c =
     c.expression-in-BayWrite-2.new.progress) _ _ b d))))
     (omega (arith, k.fuel, j.fuel)) (j.kept ∙ k.kept) (j.ends ∙ p.ends)
 
-pub expression-returns-in-default : goal.expression-returns-in-default
-expression-returns-in-default t c =
-    absurd (no_other _ _ c.requires.part _ c.node-of.ensures c.in-default.not-Number c.in-default.not-Variable
-    c.in-default.not-TwoPart
-    c.in-default.not-Assignment c.in-default.not-Call c.in-default.not-BayRead c.in-default.not-BayWrite)
+pub expression-returns-in_default : goal.expression-returns-in_default
+expression-returns-in_default t c =
+    absurd (no_other _ _ c.requires.part _ c.node_of.ensures c.in_default.not-Number c.in_default.not-Variable
+    c.in_default.not-TwoPart
+    c.in_default.not-Assignment c.in_default.not-Call c.in_default.not-BayRead c.in_default.not-BayWrite)
 
 pub arguments-returns-then-count-eq0 : goal.arguments-returns-then-count-eq0
 arguments-returns-then-count-eq0 t c =
@@ -273,19 +273,19 @@ arguments-expression-requires t c =
     let p = first-argument _ _ _ _ _ c.requires.ready (omega arith) _ refl in
     (omega arith, p.first)
 
-pub arguments-returns-in-err-x : goal.arguments-returns-in-err-x
-arguments-returns-in-err-x t c =
+pub arguments-returns-in_err-x : goal.arguments-returns-in_err-x
+arguments-returns-in_err-x t c =
     let p = first-argument _ _ _ _ _ c.requires.ready (omega arith) _ refl in
-    let k = c.in-err-x.ensures in
-    passes _ _ _ (err_from_is_err_and c.from-residual.result c.from-residual.ensures.1) (omega arith)
+    let k = c.in_err-x.ensures in
+    passes _ _ _ (err_from_is_err_and c.from_residual.result c.from_residual.ensures.1) (omega arith)
     (omega arith) k
     (rw p.is ((by-rules (setting c.args.table.now c.args.calls.depth)).of_argument _ _ _ _ _
     ∙ stops _ _ _ k.runs))
 
 pub arguments-arguments-requires : goal.arguments-arguments-requires
 arguments-arguments-requires t c =
-    let k = c.in-ok-x.ensures in
-    let p = first-argument _ _ _ _ _ c.requires.ready (omega arith) c.in-ok-x.x.next k.ends in
+    let k = c.in_ok-x.ensures in
+    let p = first-argument _ _ _ _ _ c.requires.ready (omega arith) c.in_ok-x.x.next k.ends in
     let r = p.others (lent c.expression.new.names c.expression.new.words
     (table_bays c.expression.new.bays) c.expression.new.progress)
     (record { bindings = k.kept; names = omega arith; words = omega arith }) in
@@ -293,24 +293,24 @@ arguments-arguments-requires t c =
 
 pub arguments-returns : goal.arguments-returns
 arguments-returns t c =
-    let k = c.in-ok-x.ensures in
+    let k = c.in_ok-x.ensures in
     let j = c.arguments.ensures in
-    let p = first-argument _ _ _ _ _ c.requires.ready (omega arith) c.in-ok-x.x.next k.ends in
-    let w : ℤ = c.in-ok-x.x.word in
-    let f : SFits w32 c.in-ok-x.x.word = search rules in
+    let p = first-argument _ _ _ _ _ c.requires.ready (omega arith) c.in_ok-x.x.next k.ends in
+    let w : ℤ = c.in_ok-x.x.word in
+    let f : SFits w32 c.in_ok-x.x.word = search rules in
     let gs : List ℤ = c.args.given.now in
     let x : reverse (take (c.args.from + 1) (set gs c.args.from
-    (to_z w32 (of_z w32 c.in-ok-x.x.word))))
-    ≡ c.in-ok-x.x.word ∷ reverse (take c.args.from gs) =
-    rw (add-one c.args.from, to_z-of_z w32 c.in-ok-x.x.word f)
-    (rev-set gs c.args.from c.in-ok-x.x.word (omega (arith, c.requires.given))) in
+    (to_z w32 (of_z w32 c.in_ok-x.x.word))))
+    ≡ c.in_ok-x.x.word ∷ reverse (take c.args.from gs) =
+    rw (add-one c.args.from, to_z-of_z w32 c.in_ok-x.x.word f)
+    (rev-set gs c.args.from c.in_ok-x.x.word (omega (arith, c.requires.given))) in
     let n : c.args.from + 1 + (c.args.count - 1) ≡ c.args.from + c.args.count = omega arith in
     let j' = rw n at j in
     follows _ _ _ k.kept k.fuel p.ends j'
     (rw p.is ((by-rules (setting c.args.table.now c.args.calls.depth)).of_argument _ _ _ _ _
     ∙ (goes_on _ _ _ k.runs
     ∙ ap (λ (us : List ℤ). arguments_run (setting c.args.table.now c.args.calls.depth)
-    (arguments_at c.args.table.now c.in-ok-x.x.next (c.args.count - 1))
+    (arguments_at c.args.table.now c.in_ok-x.x.next (c.args.count - 1))
     c.args.calls.opened us
     (state (lent c.expression.new.names c.expression.new.words (table_bays c.expression.new.bays)
     c.expression.new.progress))) (sym x))))
@@ -334,19 +334,19 @@ statements-statement-requires t c =
     let p = first-statement _ _ _ _ _ c.requires (omega arith) _ refl in
     (omega arith, p.first)
 
-pub statements-returns-in-err-first : goal.statements-returns-in-err-first
-statements-returns-in-err-first t c =
+pub statements-returns-in_err-first : goal.statements-returns-in_err-first
+statements-returns-in_err-first t c =
     let p = first-statement _ _ _ _ _ c.requires (omega arith) _ refl in
-    let k = c.in-err-first.ensures in
-    passes _ _ _ (err_from_is_err_and c.from-residual.result c.from-residual.ensures.1) (omega arith)
+    let k = c.in_err-first.ensures in
+    passes _ _ _ (err_from_is_err_and c.from_residual.result c.from_residual.ensures.1) (omega arith)
     (omega arith) k
     (rw p.is ((by-rules (setting c.args.table.now c.args.calls.depth)).of_then _ _ _ _
     ∙ stops _ _ _ k.runs))
 
 pub statements-statements-requires : goal.statements-statements-requires
 statements-statements-requires t c =
-    let k = c.in-ok-first.ensures in
-    let p = first-statement _ _ _ _ _ c.requires (omega arith) c.in-ok-first.first.next k.ends in
+    let k = c.in_ok-first.ensures in
+    let p = first-statement _ _ _ _ _ c.requires (omega arith) c.in_ok-first.first.next k.ends in
     let r = p.others (lent c.statement.new.names c.statement.new.words
     (table_bays c.statement.new.bays) c.statement.new.progress)
     (record { bindings = k.kept; names = omega arith; words = omega arith }) in
@@ -354,9 +354,9 @@ statements-statements-requires t c =
 
 pub statements-returns : goal.statements-returns
 statements-returns t c =
-    let k = c.in-ok-first.ensures in
+    let k = c.in_ok-first.ensures in
     let j = c.statements.ensures in
-    let p = first-statement _ _ _ _ _ c.requires (omega arith) c.in-ok-first.first.next k.ends in
+    let p = first-statement _ _ _ _ _ c.requires (omega arith) c.in_ok-first.first.next k.ends in
     follows _ _ _ k.kept k.fuel p.ends j
     (rw p.is ((by-rules (setting c.args.table.now c.args.calls.depth)).of_then _ _ _ _
     ∙ goes_on _ _ _ k.runs))
@@ -371,11 +371,11 @@ statement-expression-requires-in-Return t c =
     let p = return-ready _ _ _ _ c.requires (sym c.in-Return.ensures) in
     (omega (arith, p.part.part.within), p.part)
 
-pub statement-returns-in-err-x : goal.statement-returns-in-err-x
-statement-returns-in-err-x t c =
+pub statement-returns-in_err-x-in-Return : goal.statement-returns-in_err-x-in-Return
+statement-returns-in_err-x-in-Return t c =
     let p = return-ready _ _ _ _ c.requires (sym c.in-Return.ensures) in
-    let k = c.in-err-x.ensures in
-    passes _ _ _ (err_from_is_err_and c.from-residual.result c.from-residual.ensures.1) (omega arith)
+    let k = c.in_err-x-in-Return.ensures in
+    passes _ _ _ (err_from_is_err_and c.from_residual.result c.from_residual.ensures.1) (omega arith)
     (omega arith) k
     (rw p.is ((by-rules (setting c.args.table.now c.args.calls.depth)).of_give_back _ _ _ _
     ∙ stops _ _ _ k.runs))
@@ -385,60 +385,60 @@ statement-expression-requires-in-If t c =
     let p = if-ready _ _ _ _ c.requires _ _ refl refl (sym c.in-If.ensures) in
     (omega (arith, p.test.part.within), p.test)
 
-pub statement-returns-in-err-test : goal.statement-returns-in-err-test
-statement-returns-in-err-test t c =
+pub statement-returns-in_err-test-in-If : goal.statement-returns-in_err-test-in-If
+statement-returns-in_err-test-in-If t c =
     let p = if-ready _ _ _ _ c.requires _ _ refl refl (sym c.in-If.ensures) in
-    let k = c.in-err-test.ensures in
-    passes _ _ _ (err_from_is_err_and c.from-residual-in-err-test.result
-    c.from-residual-in-err-test.ensures.1) (omega arith) (omega arith) k
+    let k = c.in_err-test-in-If.ensures in
+    passes _ _ _ (err_from_is_err_and c.from_residual-in_err-test-in-If.result
+    c.from_residual-in_err-test-in-If.ensures.1) (omega arith) (omega arith) k
     (rw p.is ((by-rules (setting c.args.table.now c.args.calls.depth)).of_if_else _ _ _ _ _ _
     ∙ stops _ _ _ k.runs))
 
 pub statement-skip-second-requires : goal.statement-skip-second-requires
 statement-skip-second-requires t c =
-    let k = c.in-ok-test.ensures in
-    (if-ready _ _ _ _ c.requires c.in-ok-test.test.next _ k.ends refl
+    let k = c.in_ok-test-in-If.ensures in
+    (if-ready _ _ _ _ c.requires c.in_ok-test-in-If.test.next _ k.ends refl
     (sym c.in-If.ensures)).first_within
 
 pub statement-statement-requires : goal.statement-statement-requires
 statement-statement-requires t c =
-    let k = c.in-ok-test.ensures in
-    let p = if-ready _ _ _ _ c.requires c.in-ok-test.test.next c.skip-second.result k.ends
+    let k = c.in_ok-test-in-If.ensures in
+    let p = if-ready _ _ _ _ c.requires c.in_ok-test-in-If.test.next c.skip-second.result k.ends
     c.skip-second.ensures (sym c.in-If.ensures) in
     let r = p.second (lent c.expression-in-If.new.names c.expression-in-If.new.words
     (table_bays c.expression-in-If.new.bays) c.expression-in-If.new.progress)
     (record { bindings = k.kept; names = omega arith; words = omega arith }) in
     (omega (arith, p.second_within, k.ends, c.skip-second.ensures), r)
 
-pub statement-statement-requires-else-is-zero : goal.statement-statement-requires-else-is-zero
-statement-statement-requires-else-is-zero t c =
-    let k = c.in-ok-test.ensures in
-    let p = if-ready _ _ _ _ c.requires c.in-ok-test.test.next _ k.ends refl
+pub statement-statement-requires-else-is_zero : goal.statement-statement-requires-else-is_zero
+statement-statement-requires-else-is_zero t c =
+    let k = c.in_ok-test-in-If.ensures in
+    let p = if-ready _ _ _ _ c.requires c.in_ok-test-in-If.test.next _ k.ends refl
     (sym c.in-If.ensures) in
     let r = p.first (lent c.expression-in-If.new.names c.expression-in-If.new.words
     (table_bays c.expression-in-If.new.bays) c.expression-in-If.new.progress)
     (record { bindings = k.kept; names = omega arith; words = omega arith }) in
     (omega (arith, p.first_within, k.ends), r)
 
-pub statement-returns-in-err-first : goal.statement-returns-in-err-first
-statement-returns-in-err-first t c =
-    let k = c.in-ok-test.ensures in
-    let j = c.in-err-first.ensures in
-    let p = if-ready _ _ _ _ c.requires c.in-ok-test.test.next _ k.ends refl
+pub statement-returns-in_err-first-in-If : goal.statement-returns-in_err-first-in-If
+statement-returns-in_err-first-in-If t c =
+    let k = c.in_ok-test-in-If.ensures in
+    let j = c.in_err-first-in-If.ensures in
+    let p = if-ready _ _ _ _ c.requires c.in_ok-test-in-If.test.next _ k.ends refl
     (sym c.in-If.ensures) in
-    let f : SFits w32 c.in-ok-test.test.word = search rules in
-    let y : counter.zero c.in-ok-test.test.word ≡ false =
-    sym (simp to_z-of_z at c.if-is-zero.ensures) in
-    passes _ _ _ (err_from_is_err_and c.from-residual-in-err-first.result
-    c.from-residual-in-err-first.ensures.1) (omega (arith, k.kept)) k.fuel j
+    let f : SFits w32 c.in_ok-test-in-If.test.word = search rules in
+    let y : counter.zero c.in_ok-test-in-If.test.word ≡ false =
+    sym (simp to_z-of_z at c.if-is_zero.ensures) in
+    passes _ _ _ (err_from_is_err_and c.from_residual-in_err-first-in-If.result
+    c.from_residual-in_err-first-in-If.ensures.1) (omega (arith, k.kept)) k.fuel j
     (rw p.is ((by-rules (setting c.args.table.now c.args.calls.depth)).of_if_else _ _ _ _ _ _
     ∙ (goes_on _ _ _ k.runs ∙ rw y j.runs)))
 
 pub statement-skip-next-requires : goal.statement-skip-next-requires
 statement-skip-next-requires t c =
-    let k = c.in-ok-test.ensures in
-    let j = c.in-ok-first.ensures in
-    (if-ready _ _ _ _ c.requires c.in-ok-test.test.next c.in-ok-first.first.next k.ends
+    let k = c.in_ok-test-in-If.ensures in
+    let j = c.in_ok-first-in-If.ensures in
+    (if-ready _ _ _ _ c.requires c.in_ok-test-in-If.test.next c.in_ok-first-in-If.first.next k.ends
     j.ends (sym c.in-If.ensures)).second_within
 
 pub statement-returns-in-ExpressionStatement : goal.statement-returns-in-ExpressionStatement
@@ -447,12 +447,12 @@ statement-returns-in-ExpressionStatement t c =
     follows _ _ _ refl (omega arith) p.ends c.expression.ensures
     (rw p.is ((by-rules (setting c.args.table.now c.args.calls.depth)).of_evaluate _ _ _ _))
 
-pub statement-returns-in-ok-x : goal.statement-returns-in-ok-x
-statement-returns-in-ok-x t c =
+pub statement-returns-in_ok-x-in-Return : goal.statement-returns-in_ok-x-in-Return
+statement-returns-in_ok-x-in-Return t c =
     let p = return-ready _ _ _ _ c.requires (sym c.in-Return.ensures) in
-    let k = c.in-ok-x.ensures in
-    let f : SFits w32 c.in-ok-x.x.word = search rules in
-    rw (to_z-of_z w32 c.in-ok-x.x.word f)
+    let k = c.in_ok-x-in-Return.ensures in
+    let f : SFits w32 c.in_ok-x-in-Return.x.word = search rules in
+    rw (to_z-of_z w32 c.in_ok-x-in-Return.x.word f)
     record {
       runs = rw p.is ((by-rules (setting c.args.table.now c.args.calls.depth)).of_give_back _ _ _ _
           ∙ goes_on _ _ _ k.runs);
@@ -465,41 +465,41 @@ statement-returns-in-ok-x t c =
       ends = tt;
     }
 
-pub statement-returns-then-is-zero : goal.statement-returns-then-is-zero
-statement-returns-then-is-zero t c =
-    let k = c.in-ok-test.ensures in
+pub statement-returns-then-is_zero : goal.statement-returns-then-is_zero
+statement-returns-then-is_zero t c =
+    let k = c.in_ok-test-in-If.ensures in
     let j = c.statement.ensures in
-    let p = if-ready _ _ _ _ c.requires c.in-ok-test.test.next c.skip-second.result k.ends
+    let p = if-ready _ _ _ _ c.requires c.in_ok-test-in-If.test.next c.skip-second.result k.ends
     c.skip-second.ensures (sym c.in-If.ensures) in
-    let f : SFits w32 c.in-ok-test.test.word = search rules in
-    let y : counter.zero c.in-ok-test.test.word ≡ true =
-    sym (simp to_z-of_z at c.if-is-zero.ensures) in
+    let f : SFits w32 c.in_ok-test-in-If.test.word = search rules in
+    let y : counter.zero c.in_ok-test-in-If.test.word ≡ true =
+    sym (simp to_z-of_z at c.if-is_zero.ensures) in
     follows _ _ _ k.kept k.fuel p.ends j
     (rw p.is ((by-rules (setting c.args.table.now c.args.calls.depth)).of_if_else _ _ _ _ _ _
     ∙ (goes_on _ _ _ k.runs ∙ rw y refl)))
 
-pub statement-returns-in-ok-first : goal.statement-returns-in-ok-first
-statement-returns-in-ok-first t c =
-    let k = c.in-ok-test.ensures in
-    let j = c.in-ok-first.ensures in
-    let p = if-ready _ _ _ _ c.requires c.in-ok-test.test.next c.in-ok-first.first.next k.ends
+pub statement-returns-in_ok-first-in-If : goal.statement-returns-in_ok-first-in-If
+statement-returns-in_ok-first-in-If t c =
+    let k = c.in_ok-test-in-If.ensures in
+    let j = c.in_ok-first-in-If.ensures in
+    let p = if-ready _ _ _ _ c.requires c.in_ok-test-in-If.test.next c.in_ok-first-in-If.first.next k.ends
     j.ends (sym c.in-If.ensures) in
-    let f : SFits w32 c.in-ok-test.test.word = search rules in
-    let g : SFits w32 c.in-ok-first.first.word = search rules in
-    let y : counter.zero c.in-ok-test.test.word ≡ false =
-    sym (simp to_z-of_z at c.if-is-zero.ensures) in
-    gives _ _ _ _ _ _ _ (to_z-of_z w32 c.in-ok-first.first.word g)
+    let f : SFits w32 c.in_ok-test-in-If.test.word = search rules in
+    let g : SFits w32 c.in_ok-first-in-If.first.word = search rules in
+    let y : counter.zero c.in_ok-test-in-If.test.word ≡ false =
+    sym (simp to_z-of_z at c.if-is_zero.ensures) in
+    gives _ _ _ _ _ _ _ (to_z-of_z w32 c.in_ok-first-in-If.first.word g)
     (rw p.is ((by-rules (setting c.args.table.now c.args.calls.depth)).of_if_else _ _ _ _ _ _
     ∙ (goes_on _ _ _ k.runs ∙ rw y j.runs)))
     (omega (arith, k.fuel, j.fuel)) (j.kept ∙ k.kept) (c.skip-next.ensures ∙ p.ends)
 
-pub statement-returns-in-default : goal.statement-returns-in-default
-statement-returns-in-default t c =
-    let b : node_at c.args.table.now c.args.at ≡ _ = sym c.node-of.ensures in
-    absurd (c.in-default.not-ExpressionStatement (c.node-of.ensures
+pub statement-returns-in_default : goal.statement-returns-in_default
+statement-returns-in_default t c =
+    let b : node_at c.args.table.now c.args.at ≡ _ = sym c.node_of.ensures in
+    absurd (c.in_default.not-ExpressionStatement (c.node_of.ensures
     ∙ simple-kind _ _ c.requires.part.within c.requires.part.sound
-    (λ e. c.in-default.not-Return (c.node-of.ensures ∙ e)) (λ e. c.in-default.not-If (c.node-of.ensures ∙ e))
-    (λ e. c.in-default.not-While (c.node-of.ensures ∙ e)) (λ e. c.in-default.not-Block (c.node-of.ensures ∙ e))))
+    (λ e. c.in_default.not-Return (c.node_of.ensures ∙ e)) (λ e. c.in_default.not-If (c.node_of.ensures ∙ e))
+    (λ e. c.in_default.not-While (c.node_of.ensures ∙ e)) (λ e. c.in_default.not-Block (c.node_of.ensures ∙ e))))
 
 pub repeat-expression-requires : goal.repeat-expression-requires
 repeat-expression-requires t c =
@@ -509,12 +509,12 @@ repeat-expression-requires t c =
     (record { bindings = c.loop-progress.invariant.2; names = omega arith; words = omega arith }) in
     (omega (arith, r.part.within), r)
 
-pub repeat-returns-in-err-test : goal.repeat-returns-in-err-test
-repeat-returns-in-err-test t c =
-    let k = c.in-err-test.ensures in
+pub repeat-returns-in_err-test : goal.repeat-returns-in_err-test
+repeat-returns-in_err-test t c =
+    let k = c.in_err-test.ensures in
     let p = while-ready _ _ _ _ c.requires.ready _ refl c.requires.kind in
     let z : c.loop-progress.progress.fuel ≡ suc (c.loop-progress.progress.fuel - 1) = omega arith in
-    passes _ _ _ (err_from_is_err_and c.from-residual.result c.from-residual.ensures.1)
+    passes _ _ _ (err_from_is_err_and c.from_residual.result c.from_residual.ensures.1)
     (omega (arith, c.loop-progress.invariant.2)) (omega (arith, c.loop-progress.invariant.1)) k
     (c.loop-progress.invariant.0 ∙ rw p.is (test-stops c.args.table.now c.args.calls.depth
     c.args.calls.opened c.args.at _ _
@@ -523,16 +523,16 @@ repeat-returns-in-err-test t c =
 
 pub repeat-skip-next-requires : goal.repeat-skip-next-requires
 repeat-skip-next-requires t c =
-    let k = c.in-ok-test.ensures in
-    (while-ready _ _ _ _ c.requires.ready c.in-ok-test.test.next k.ends c.requires.kind).within
+    let k = c.in_ok-test.ensures in
+    (while-ready _ _ _ _ c.requires.ready c.in_ok-test.test.next k.ends c.requires.kind).within
 
-pub repeat-returns-then-is-zero : goal.repeat-returns-then-is-zero
-repeat-returns-then-is-zero t c =
-    let k = c.in-ok-test.ensures in
-    let p = while-ready _ _ _ _ c.requires.ready c.in-ok-test.test.next k.ends c.requires.kind in
-    let f : SFits w32 c.in-ok-test.test.word = search rules in
-    let y : counter.zero c.in-ok-test.test.word ≡ true =
-    sym (simp to_z-of_z at c.if-is-zero.ensures) in
+pub repeat-returns-then-is_zero : goal.repeat-returns-then-is_zero
+repeat-returns-then-is_zero t c =
+    let k = c.in_ok-test.ensures in
+    let p = while-ready _ _ _ _ c.requires.ready c.in_ok-test.test.next k.ends c.requires.kind in
+    let f : SFits w32 c.in_ok-test.test.word = search rules in
+    let y : counter.zero c.in_ok-test.test.word ≡ true =
+    sym (simp to_z-of_z at c.if-is_zero.ensures) in
     let z : c.loop-progress.progress.fuel ≡ suc (c.loop-progress.progress.fuel - 1) = omega arith in
     gives _ _ _ _ _ _ _ refl
     (c.loop-progress.invariant.0 ∙ rw p.is (test_zero c.args.table.now c.args.calls.depth
@@ -544,24 +544,24 @@ repeat-returns-then-is-zero t c =
 
 pub repeat-statement-requires : goal.repeat-statement-requires
 repeat-statement-requires t c =
-    let k = c.in-ok-test.ensures in
-    let p = while-ready _ _ _ _ c.requires.ready c.in-ok-test.test.next k.ends c.requires.kind in
+    let k = c.in_ok-test.ensures in
+    let p = while-ready _ _ _ _ c.requires.ready c.in_ok-test.test.next k.ends c.requires.kind in
     let r = p.body (lent c.expression.new.names c.expression.new.words
     (table_bays c.expression.new.bays) c.expression.new.progress)
     (record { bindings = k.kept ∙ c.loop-progress.invariant.2; names = omega arith; words = omega arith }) in
     (omega (arith, p.within, k.ends), r)
 
-pub repeat-returns-in-err--done : goal.repeat-returns-in-err--done
-repeat-returns-in-err--done t c =
-    let k = c.in-ok-test.ensures in
-    let j = c.in-err--done.ensures in
-    let p = while-ready _ _ _ _ c.requires.ready c.in-ok-test.test.next k.ends c.requires.kind in
-    let f : SFits w32 c.in-ok-test.test.word = search rules in
-    let y : counter.zero c.in-ok-test.test.word ≡ false =
-    sym (simp to_z-of_z at c.if-is-zero.ensures) in
+pub repeat-returns-in_err-_done : goal.repeat-returns-in_err-_done
+repeat-returns-in_err-_done t c =
+    let k = c.in_ok-test.ensures in
+    let j = c.in_err-_done.ensures in
+    let p = while-ready _ _ _ _ c.requires.ready c.in_ok-test.test.next k.ends c.requires.kind in
+    let f : SFits w32 c.in_ok-test.test.word = search rules in
+    let y : counter.zero c.in_ok-test.test.word ≡ false =
+    sym (simp to_z-of_z at c.if-is_zero.ensures) in
     let z : c.loop-progress.progress.fuel ≡ suc (c.loop-progress.progress.fuel - 1) = omega arith in
-    passes _ _ _ (err_from_is_err_and c.from-residual-in-err--done.result
-    c.from-residual-in-err--done.ensures.1) (omega (arith, k.kept, c.loop-progress.invariant.2))
+    passes _ _ _ (err_from_is_err_and c.from_residual-in_err-_done.result
+    c.from_residual-in_err-_done.ensures.1) (omega (arith, k.kept, c.loop-progress.invariant.2))
     (omega (arith, k.fuel, c.loop-progress.invariant.1)) j
     (c.loop-progress.invariant.0 ∙ rw p.is (body-stops c.args.table.now c.args.calls.depth
     c.args.calls.opened c.args.at _ _
@@ -571,12 +571,12 @@ repeat-returns-in-err--done t c =
 
 pub repeat-loop-progress-preserved : goal.repeat-loop-progress-preserved
 repeat-loop-progress-preserved t c =
-    let k = c.in-ok-test.ensures in
-    let j = c.in-ok--done.ensures in
-    let p = while-ready _ _ _ _ c.requires.ready c.in-ok-test.test.next k.ends c.requires.kind in
-    let f : SFits w32 c.in-ok-test.test.word = search rules in
-    let y : counter.zero c.in-ok-test.test.word ≡ false =
-    sym (simp to_z-of_z at c.if-is-zero.ensures) in
+    let k = c.in_ok-test.ensures in
+    let j = c.in_ok-_done.ensures in
+    let p = while-ready _ _ _ _ c.requires.ready c.in_ok-test.test.next k.ends c.requires.kind in
+    let f : SFits w32 c.in_ok-test.test.word = search rules in
+    let y : counter.zero c.in_ok-test.test.word ≡ false =
+    sym (simp to_z-of_z at c.if-is_zero.ensures) in
     let z : c.loop-progress.progress.fuel ≡ suc (c.loop-progress.progress.fuel - 1) = omega arith in (
       c.loop-progress.invariant.0 ∙ rw p.is (begins-over c.args.table.now c.args.calls.depth
           c.args.calls.opened c.args.at _ _
@@ -619,16 +619,16 @@ block-statements-requires t c =
     c.declare.new.progress) c.declare.ensures.progress.count (omega arith) (omega arith) in
     (omega (arith, c.requires.ready.part.within), r)
 
-pub block-returns-in-err-next : goal.block-returns-in-err-next
-block-returns-in-err-next t c =
+pub block-returns-in_err-next : goal.block-returns-in_err-next
+block-returns-in_err-next t c =
     let p = block-ready _ _ _ _ _ c.of-count.result c.requires.ready c.requires.kind refl
     c.of-count.ensures in
-    let k = c.in-err-next.ensures in
+    let k = c.in_err-next.ensures in
     let b = ap (λ (σ : State ℤ). statements_run (setting c.args.table.now c.args.calls.depth)
     (statements_at c.args.table.now (c.args.at + 1 + (get_or c.args.table.now c.args.at no_record).a)
     c.of-count.result) c.args.calls.opened σ)
     (sym (c.declare.ensures.bound (table_bays c.args.bays.now))) in
-    passes _ _ _ (err_from_is_err_and c.from-residual.result c.from-residual.ensures.1)
+    passes _ _ _ (err_from_is_err_and c.from_residual.result c.from_residual.ensures.1)
     (omega (arith, c.declare.ensures.progress.count)) (omega (arith, c.declare.ensures.progress.fuel)) k
     (rw p.is ((by-rules (setting c.args.table.now c.args.calls.depth)).of_block _ _ _ _ _
     ∙ (ap (leave_block (pos 0) (state (lent c.args.names.now c.args.words.now
@@ -640,7 +640,7 @@ pub block-returns : goal.block-returns
 block-returns t c =
     let p = block-ready _ _ _ _ _ c.of-count.result c.requires.ready c.requires.kind refl
     c.of-count.ensures in
-    let k = c.in-ok-next.ensures in
+    let k = c.in_ok-next.ensures in
     let e = c.declare.ensures.progress.count in
     let b = ap (λ (σ : State ℤ). statements_run (setting c.args.table.now c.args.calls.depth)
     (statements_at c.args.table.now (c.args.at + 1 + (get_or c.args.table.now c.args.at no_record).a)
@@ -666,33 +666,33 @@ call-arguments-requires t c =
     c.of-count.ensures in
     (omega (arith, c.requires.ready.part.within), (p.ready, omega (arith, p.few)))
 
-pub call-returns-in-err-next : goal.call-returns-in-err-next
-call-returns-in-err-next t c =
+pub call-returns-in_err-next : goal.call-returns-in_err-next
+call-returns-in_err-next t c =
     let p = call-ready _ _ _ _ c.requires.ready c.of-count.result c.requires.kind
     c.of-count.ensures in
-    let k = c.in-err-next.ensures in
-    passes _ _ _ (err_from_is_err_and c.from-residual.result c.from-residual.ensures.1) (omega arith)
+    let k = c.in_err-next.ensures in
+    passes _ _ _ (err_from_is_err_and c.from_residual.result c.from_residual.ensures.1) (omega arith)
     (omega arith) k
     (rw p.is ((by-rules (setting c.args.table.now c.args.calls.depth)).of_call _ _ _ _ _
     ∙ stops _ _ _ k.runs))
 
-pub call-returns-in-default : goal.call-returns-in-default
-call-returns-in-default t c =
+pub call-returns-in_default : goal.call-returns-in_default
+call-returns-in_default t c =
     let p = call-ready _ _ _ _ c.requires.ready c.of-count.result c.requires.kind
     c.of-count.ensures in
-    let k = c.in-ok-next.ensures in
+    let k = c.in_ok-next.ensures in
     gives _ _ _ _ _ _ _ refl
     (rw p.is ((by-rules (setting c.args.table.now c.args.calls.depth)).of_call _ _ _ _ _
     ∙ (goes_on _ _ _ k.runs ∙ no-function (setting c.args.table.now c.args.calls.depth)
     (λ calls s σ. statement_run (setting c.args.table.now c.args.calls.depth) s calls σ) _ _
-    c.in-default.ensures _ _)))
+    c.in_default.ensures _ _)))
     k.fuel k.kept (k.ends ∙ p.ends)
 
 pub call-returns-then-calls : goal.call-returns-then-calls
 call-returns-then-calls t c =
     let p = call-ready _ _ _ _ c.requires.ready c.of-count.result c.requires.kind
     c.of-count.ensures in
-    let k = c.in-ok-next.ensures in
+    let k = c.in_ok-next.ensures in
     let l = c.in-Some.ensures in
     record {
       runs = rw p.is ((by-rules (setting c.args.table.now c.args.calls.depth)).of_call _ _ _ _ _
@@ -712,7 +712,7 @@ pub call-returns-then-progress-eq0 : goal.call-returns-then-progress-eq0
 call-returns-then-progress-eq0 t c =
     let p = call-ready _ _ _ _ c.requires.ready c.of-count.result c.requires.kind
     c.of-count.ensures in
-    let k = c.in-ok-next.ensures in
+    let k = c.in_ok-next.ensures in
     let l = c.in-Some.ensures in
     record {
       runs = rw p.is ((by-rules (setting c.args.table.now c.args.calls.depth)).of_call _ _ _ _ _
@@ -733,7 +733,7 @@ pub call-bind-requires : goal.call-bind-requires
 call-bind-requires t c =
     let p = call-ready _ _ _ _ c.requires.ready c.of-count.result c.requires.kind
     c.of-count.ensures in
-    let k = c.in-ok-next.ensures in
+    let k = c.in_ok-next.ensures in
     let l = c.in-Some.ensures in
     let h : c.args.calls.opened < c.args.calls.depth =
     not-all c.requires.ready.room.below c.if-calls.false in
@@ -748,11 +748,11 @@ call-bind-requires t c =
     h l p.takes in
     record { plain = n.plain; given = omega (arith, p.few); names = n.names; words = n.words }
 
-pub call-overflow-add-f-3 : goal.call-overflow-add-f-3
-call-overflow-add-f-3 t c =
+pub call-overflow_add-f-3 : goal.call-overflow_add-f-3
+call-overflow_add-f-3 t c =
     let p = call-ready _ _ _ _ c.requires.ready c.of-count.result c.requires.kind
     c.of-count.ensures in
-    let k = c.in-ok-next.ensures in
+    let k = c.in_ok-next.ensures in
     let l = c.in-Some.ensures in
     let h : c.args.calls.opened < c.args.calls.depth =
     not-all c.requires.ready.room.below c.if-calls.false in
@@ -772,7 +772,7 @@ pub call-statement-requires : goal.call-statement-requires
 call-statement-requires t c =
     let p = call-ready _ _ _ _ c.requires.ready c.of-count.result c.requires.kind
     c.of-count.ensures in
-    let k = c.in-ok-next.ensures in
+    let k = c.in_ok-next.ensures in
     let l = c.in-Some.ensures in
     let h : c.args.calls.opened < c.args.calls.depth =
     not-all c.requires.ready.room.below c.if-calls.false in
@@ -794,7 +794,7 @@ pub call-returns-in-Ok : goal.call-returns-in-Ok
 call-returns-in-Ok t c =
     let p = call-ready _ _ _ _ c.requires.ready c.of-count.result c.requires.kind
     c.of-count.ensures in
-    let k = c.in-ok-next.ensures in
+    let k = c.in_ok-next.ensures in
     let l = c.in-Some.ensures in
     let h : c.args.calls.opened < c.args.calls.depth =
     not-all c.requires.ready.room.below c.if-calls.false in
@@ -843,7 +843,7 @@ pub call-returns-in-Returned : goal.call-returns-in-Returned
 call-returns-in-Returned t c =
     let p = call-ready _ _ _ _ c.requires.ready c.of-count.result c.requires.kind
     c.of-count.ensures in
-    let k = c.in-ok-next.ensures in
+    let k = c.in_ok-next.ensures in
     let l = c.in-Some.ensures in
     let h : c.args.calls.opened < c.args.calls.depth =
     not-all c.requires.ready.room.below c.if-calls.false in
@@ -892,7 +892,7 @@ pub call-returns-in-Ended : goal.call-returns-in-Ended
 call-returns-in-Ended t c =
     let p = call-ready _ _ _ _ c.requires.ready c.of-count.result c.requires.kind
     c.of-count.ensures in
-    let k = c.in-ok-next.ensures in
+    let k = c.in_ok-next.ensures in
     let l = c.in-Some.ensures in
     let h : c.args.calls.opened < c.args.calls.depth =
     not-all c.requires.ready.room.below c.if-calls.false in

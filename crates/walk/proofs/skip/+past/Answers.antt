@@ -1,4 +1,4 @@
-use Rattle.std.proofs.Common.{◌≡◌, ℕ, ◌+◌, ◌<◌, List, sym, refl, ap, ◌∙◌, arith}
+use Rattle.std.proofs.Common.{◌≡◌, ℕ, ◌<◌, ap, arith}
 use Rattle.syntax.specs.Trees.{sizes, pieces}
 use Rattle.walk.proofs.Skips.{past_end, one_more}
 use Rattle.walk.proofs.skip.+past.Goals as goal
@@ -17,6 +17,6 @@ returns-then-at-table t c =
 pub returns : goal.returns
 returns t c =
     let h : c.args.at < _ = c.if-at-table.false in
-    let e = one_more c.args.table.now c.args.at c.args.count _ c.parts-of.result
-    c.parts-of.ensures h (omega arith) c.past-next.result c.past-next.ensures.next in
+    let e = one_more c.args.table.now c.args.at c.args.count _ c.parts_of.result
+    c.parts_of.ensures h (omega arith) c.past-next.result c.past-next.ensures.next in
     record { next = omega arith; within = omega arith }

@@ -6,6 +6,6 @@ use Rattle.walk.proofs.skip.parts_of.Goals as goal
 
 pub returns : goal.returns
 returns c =
-    let e = ap (λ (row : Row). amount row.first.count c.args.node) c.row-of-row.ensures in
-    let f = ap (λ (row : Row). amount row.second.count c.args.node) c.row-of-row.ensures in
+    let e = ap (λ (row : Row). amount row.first.count c.args.node) c.row_of-row.ensures in
+    let f = ap (λ (row : Row). amount row.second.count c.args.node) c.row_of-row.ensures in
     simp (length-append, length-replicate) (omega arith)

@@ -1,4 +1,4 @@
-use Rattle.std.proofs.Common.{◌≡◌, List, reverse, take, drop, set, ℤ, sym, refl, ap, ◌∙◌, w32, SFits, rules}
+use Rattle.std.proofs.Common.{reverse, take, set, ℤ, sym, refl, ap, ◌∙◌, w32, SFits, rules}
 use Rattle.std.proofs.lemmas.Int.{to_z-of_z}
 use Rattle.walk.proofs.Bindings.{store-absent, store_found, drop-set}
 use Rattle.walk.proofs.variables.assign.Goals as goal
@@ -16,9 +16,9 @@ returns-in-Some c =
       behind = drop-set c.args.words.now c.in-Some.i c.args.bound _ i.below;
     }
 
-pub returns-in-default : goal.returns-in-default
-returns-in-default c = record {
+pub returns-in_default : goal.returns-in_default
+returns-in_default c = record {
   bindings = sym (store-absent c.args.names.now c.args.words.now _ c.args.word c.args.bound
-      c.in-default.ensures c.requires.names c.requires.words);
+      c.in_default.ensures c.requires.names c.requires.words);
   behind = refl;
 }

@@ -1,4 +1,4 @@
-use Rattle.std.proofs.Common.{get_or, ℤ, pos, sym, ◌∙◌, arith, w32, SFits, rules}
+use Rattle.std.proofs.Common.{get_or, ℤ, pos, sym, ◌∙◌, w32, SFits, rules}
 use Rattle.std.proofs.lemmas.Int.{to_z-of_z}
 use Rattle.walk.proofs.Bindings.{look-up-absent, look-up-found}
 use Rattle.walk.proofs.variables.word_of.Goals as goal

@@ -1,15 +1,15 @@
-use Rattle.std.proofs.Common.{◌≡◌, ℕ, ◌+◌, ◌-◌, ◌*◌, ◌<◌, ◌≤◌, List, [], length, get_or, ℤ, Ok, sym, refl, ap, ◌∙◌, subst, add-mul, one-mul, arith, rules}
+use Rattle.std.proofs.Common.{◌≡◌, ℕ, ◌+◌, ◌-◌, ◌*◌, [], length, Ok, refl, ap, ◌∙◌, subst, add-mul, one-mul, arith}
 use Rattle.kinds.specs.Counter.{counter}
 use Rattle.racks.specs.Makes.{table_bays}
-use Rattle.syntax.specs.Syntax.{Program, Statement, globals_of, variables_of}
+use Rattle.syntax.specs.Syntax.{Program, Statement, globals_of}
 use Rattle.syntax.specs.Trees.{no_record}
-use Rattle.syntax.specs.Typed.{program_of, statement_at, declarations_at}
+use Rattle.syntax.specs.Typed.{program_of, statement_at}
 use Rattle.syntax.proofs.Declarations.{programmed}
 use Rattle.names.specs.Need.{need_statement}
 use Rattle.names.specs.Scoped.{ScopedStatement}
 use Rattle.treerun.specs.TreeRun.{run_program, unbound}
 use Rattle.walk.specs.declared.report.Report.{Report}
-use Rattle.walk.specs.Lent.{lent, state, every}
+use Rattle.walk.specs.Lent.{lent, every}
 use Rattle.walk.specs.Ready.{globals_in, functions_in, need_in}
 use Rattle.walk.specs.Walked.{leaves}
 use Rattle.walk.proofs.Walks.{run-shown, program_runs}
@@ -53,8 +53,8 @@ statement-outcome-requires c =
       };
     }
 
-pub overflow-sub-fuel : goal.overflow-sub-fuel
-overflow-sub-fuel c = omega (arith, c.statement-outcome.ensures.fuel, c.globals-main.ensures.progress.fuel)
+pub overflow_sub-fuel : goal.overflow_sub-fuel
+overflow_sub-fuel c = omega (arith, c.statement-outcome.ensures.fuel, c.globals-main.ensures.progress.fuel)
 
 pub returns : goal.returns
 returns c =
@@ -63,7 +63,7 @@ returns c =
     c.globals-main.ensures.next in
     let k = c.statement-outcome.ensures in
     ap (λ (r : Report). leaves (Ok r) c.statement-outcome.new.names c.statement-outcome.new.words
-    (table_bays c.statement-outcome.new.bays)) c.report-on.ensures
+    (table_bays c.statement-outcome.new.bays)) c.report_on.ensures
     ∙ run-shown c.args.fuel c.statement-outcome.result
     (run_program counter every (program_of c.args.table.now) c.args.depth
     (unbound c.args.names.now c.args.words.now (table_bays c.args.bays.now) c.args.fuel))

@@ -3,7 +3,11 @@ use Rattle.std.proofs.Common.{vec_items}
 use Rattle.cell.proofs.Accepting.{where-armed}
 use Rattle.cell.proofs.memory.Cell.begin.Goals as goal
 
-pub invariant-of-self : goal.invariant-of-self
-invariant-of-self g c =
+pub invariant_of-self : goal.invariant_of-self
+invariant_of-self g c =
     let cell = c.args.self.now in
-    (cell.room, (where-armed cell.state (vec_items cell.table) c.requires cell.accepted, (cell.few, tt)))
+    record {
+      room = cell.room;
+      accepted = where-armed cell.state (vec_items cell.table) c.requires cell.accepted;
+      few = cell.few;
+    }

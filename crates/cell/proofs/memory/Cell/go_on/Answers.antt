@@ -1,5 +1,5 @@
 -- The run of the machine, as the call of the definition.
-use Rattle.std.proofs.Common.{◌≡◌, ℕ, ◌≤◌, reverse, length, take, Ok, Option, ap, ◌∙◌, arith}
+use Rattle.std.proofs.Common.{◌≤◌, reverse, length, take, Ok, Option, ap, ◌∙◌, arith}
 use Rattle.machine.specs.declared.state.RunEnd.{RunEnd}
 use Rattle.machine.specs.Machine.{state_of, image_of}
 use Rattle.cell.specs.declared.calls.Answer.{Answer}
@@ -11,11 +11,11 @@ use Rattle.cell.proofs.memory.Cell.go_on.Goals as goal
 pub returns : goal.returns
 returns g c =
     let cell = c.args.self.now in
-    let kind = g.Word.NumberKind.kind in
+    let kind = g.R.Word.NumberKind.kind in
     let holds = g.R.Rack.holds c.args.rack.now in
     let w = world_in cell c.args.words.now (g.R.Rack.bays c.args.rack.now) in
     let machine = c.run-run.new.self in
-    let end = c.end-of-end.ensures in
+    let end = c.end_of-end.ensures in
     let enough : words_wanted cell.machine.depth (shown cell) ≤ length c.args.words.now = omega arith in
     let made =
     goes_on kind holds w c.args.steps c.requires
@@ -34,12 +34,12 @@ returns g c =
     record {
       made = record {
         answers_so =
-            ap (λ (a : Answer). Ok a) (c.answer-to.ensures ∙ ap (λ (e : Option RunEnd). run_answer e) end)
+            ap (λ (a : Answer). Ok a) (c.answer_to.ensures ∙ ap (λ (e : Option RunEnd). run_answer e) end)
             ∙ made.answers_so;
         leaves =
             (λ t. record {
               cell =
-                  with_machine ((c.state-after-self.ensures ∙ ap (λ (e : Option RunEnd). run_state e) end) t)
+                  with_machine ((c.state_after-self.ensures ∙ ap (λ (e : Option RunEnd). run_state e) end) t)
                   (record {
                     height = machine.height;
                     pc = machine.pc;
@@ -49,7 +49,7 @@ returns g c =
                     depth = c.run-run.ensures.depth t;
                     globals = c.run-run.ensures.globals t;
                   })
-                  cell.fuel (c.saturating-add-self.ensures t) (end t) (shown cell);
+                  cell.fuel (c.saturating_add-self.ensures t) (end t) (shown cell);
               words = c.run-run.new.words;
               bays = g.R.Rack.bays c.run-run.new.rack;
             })

@@ -7,9 +7,9 @@ pub loop-call-preserved : goal.loop-call-preserved
 loop-call-preserved g c =
     let inv = c.loop-call.invariant in (
       turn _ _ _ _ _ _ c.args.calls.now c.loop-call.call-index _ _ _ _ inv.3 c.loop-call-test.true
-          inv.0 c.take-answer.ensures.made c.push-reserved.ensures.items,
-      omega (arith, c.push-reserved.ensures.len, inv.1),
-      omega (arith, c.push-reserved.ensures.capacity, inv.2),
+          inv.0 c.take-answer.ensures.made c.push_reserved.ensures.items,
+      omega (arith, c.push_reserved.ensures.len, inv.1),
+      omega (arith, c.push_reserved.ensures.capacity, inv.2),
       c.take-answer.ensures.holds ∙ inv.3,
       c.take-answer.ensures.loan ∙ inv.4,
     )

@@ -6,7 +6,7 @@ use Rattle.cell.proofs.memory.Cell.perform.Given as goal
 
 abbrev pub invariant-loop-call : goal.invariant-loop-call
 invariant-loop-call g l =
-    SoFar g.Word.NumberKind.kind (g.R.Rack.holds l.initial.rack)
+    SoFar g.R.Word.NumberKind.kind (g.R.Rack.holds l.initial.rack)
     (world_in l.initial.self l.initial.words (g.R.Rack.bays l.initial.rack)) l.calls l.call-index
     (vec_items l.answers) (world_in l.self l.words (g.R.Rack.bays l.rack))
     × (vec_len l.answers ≡ l.call-index)

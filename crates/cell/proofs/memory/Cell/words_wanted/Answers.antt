@@ -1,9 +1,9 @@
 -- The globals are in memory, so they are fewer than 2 ^ 63.
-use Rattle.std.proofs.Common.{◌≡◌, ℕ, ◌+◌, ◌*◌, ◌^◌, ◌<◌, ◌≤◌, List, length, ℤ, vec_items, ap, mul-le-mul, arith}
+use Rattle.std.proofs.Common.{◌≡◌, ◌+◌, ◌*◌, ◌^◌, ◌<◌, ◌≤◌, List, length, ℤ, vec_items, ap, mul-le-mul, arith}
 use Rattle.cell.proofs.memory.Cell.words_wanted.Goals as goal
 
-pub overflow-add-result-2 : goal.overflow-add-result-2
-overflow-add-result-2 c =
+pub overflow_add-result-2 : goal.overflow_add-result-2
+overflow_add-result-2 c =
     let cell = c.args.self.now in
     let globals = cell.translation.globals in
     let count : length c.globals.result.now ≡ length (vec_items globals) =

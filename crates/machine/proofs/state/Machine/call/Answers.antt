@@ -7,23 +7,23 @@ use Rattle.machine.proofs.state.Machine.call.Goals as goal
 pub enter-requires : goal.enter-requires
 enter-requires g c =
     let m = c.args.self.now in
-    let room = admitted m.calls m.depth m.fuel (sym c.call-refused.ensures ∙ c.in-default-call-refused.is) in
+    let room = admitted m.calls m.depth m.fuel (sym c.call_refused.ensures ∙ c.in_default-call_refused.is) in
     search rules
 
-pub returns-in-Some-call-refused : goal.returns-in-Some-call-refused
-returns-in-Some-call-refused g c = λ words bays.
+pub returns-in-Some-call_refused : goal.returns-in-Some-call_refused
+returns-in-Some-call_refused g c = λ words bays.
     let m = c.args.self.now in
     let recorded : m.calls ≤ length m.frames.records = search rules in
     ends _ m words bays m words bays refl refl _ c.args.place
     (refused (image_of g.W.NumberKind.kind (λ _. false) [] c.args.entries.now m) m words bays c.args.f
     c.args.place c.in-Some.function (sym c.in-Some.is ∙ c.element.ensures.value)
-    c.if-function-self.false recorded c.in-Some-call-refused.ending
-    (sym c.call-refused.ensures ∙ c.in-Some-call-refused.is))
+    c.if-function-self.false recorded c.in-Some-call_refused.ending
+    (sym c.call_refused.ensures ∙ c.in-Some-call_refused.is))
 
 pub returns : goal.returns
 returns g c = λ words bays.
     let m = c.args.self.now in
-    let room = admitted m.calls m.depth m.fuel (sym c.call-refused.ensures ∙ c.in-default-call-refused.is) in
+    let room = admitted m.calls m.depth m.fuel (sym c.call_refused.ensures ∙ c.in_default-call_refused.is) in
     let free : m.calls < length m.frames.records = search rules in
     let entered = c.enter.ensures in
     goes_on _ m words bays c.enter.new.self words bays entered.depth entered.globals

@@ -9,16 +9,16 @@ returns-in-Lit g c =
     let e = to_z-of_z w32 c.in-Lit.n fits in search rules
 
 pub returns-in-GetL : goal.returns-in-GetL
-returns-in-GetL g c = let h = c.get-local.ensures (g.R.Rack.bays c.args.rack.now) in search rules
+returns-in-GetL g c = let h = c.get_local.ensures (g.R.Rack.bays c.args.rack.now) in search rules
 
 pub returns-in-SetL : goal.returns-in-SetL
-returns-in-SetL g c = let h = c.set-local.ensures (g.R.Rack.bays c.args.rack.now) in search rules
+returns-in-SetL g c = let h = c.set_local.ensures (g.R.Rack.bays c.args.rack.now) in search rules
 
 pub returns-in-GetG : goal.returns-in-GetG
-returns-in-GetG g c = let h = c.fetch-word.ensures (g.R.Rack.bays c.args.rack.now) in search rules
+returns-in-GetG g c = let h = c.fetch_word.ensures (g.R.Rack.bays c.args.rack.now) in search rules
 
 pub returns-in-SetG : goal.returns-in-SetG
-returns-in-SetG g c = let h = c.store-word.ensures (g.R.Rack.bays c.args.rack.now) in search rules
+returns-in-SetG g c = let h = c.store_word.ensures (g.R.Rack.bays c.args.rack.now) in search rules
 
 pub returns-in-Add : goal.returns-in-Add
 returns-in-Add g c = let h = c.add.ensures (g.R.Rack.bays c.args.rack.now) in search rules
@@ -30,10 +30,10 @@ pub returns-in-Gt : goal.returns-in-Gt
 returns-in-Gt g c = let h = c.compare.ensures (g.R.Rack.bays c.args.rack.now) in search rules
 
 pub returns-in-Pop : goal.returns-in-Pop
-returns-in-Pop g c = let h = c.drop-word.ensures c.args.words.now (g.R.Rack.bays c.args.rack.now) in search rules
+returns-in-Pop g c = let h = c.drop_word.ensures c.args.words.now (g.R.Rack.bays c.args.rack.now) in search rules
 
 pub returns-in-Jz : goal.returns-in-Jz
-returns-in-Jz g c = let h = c.jump-on-zero.ensures (g.R.Rack.bays c.args.rack.now) in search rules
+returns-in-Jz g c = let h = c.jump_on_zero.ensures (g.R.Rack.bays c.args.rack.now) in search rules
 
 pub returns-in-Jmp : goal.returns-in-Jmp
 returns-in-Jmp g c = let h = c.jump.ensures c.args.words.now (g.R.Rack.bays c.args.rack.now) in search rules

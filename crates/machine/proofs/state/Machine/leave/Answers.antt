@@ -7,7 +7,7 @@ use Rattle.machine.proofs.state.Machine.leave.Goals as goal
 pub returns : goal.returns
 returns g c = λ bays.
     let m = c.args.self.now in
-    let cut = c.cut-frame.ensures.machine in
+    let cut = c.cut_frame.ensures.machine in
     goes_on _ m c.args.words.now bays _ _ bays cut.depth cut.globals
     (returns_to (word_image g.W.NumberKind.kind m) m c.args.words.now _ bays 0 c.at-caller.result
-    (omega arith) (omega arith) c.at-caller.ensures c.cut-frame.ensures.words ∙ cc)
+    (omega arith) (omega arith) c.at-caller.ensures c.cut_frame.ensures.words ∙ cc)

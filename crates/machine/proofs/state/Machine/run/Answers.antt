@@ -9,7 +9,7 @@ loop-left-init g c = (omega arith, no_step _ _ _ (omega arith), refl, refl, refl
 
 pub loop-left-preserved : goal.loop-left-preserved
 loop-left-preserved g c =
-    let kind = g.Word.NumberKind.kind in
+    let kind = g.R.Word.NumberKind.kind in
     let code = c.args.code.now in
     let entries = c.args.entries.now in
     let image = image_of kind (g.R.Rack.holds c.args.rack.now) code entries c.args.self.now in
@@ -33,7 +33,7 @@ loop-left-preserved g c =
 
 pub returns-in-Over : goal.returns-in-Over
 returns-in-Over g c =
-    let kind = g.Word.NumberKind.kind in
+    let kind = g.R.Word.NumberKind.kind in
     let code = c.args.code.now in
     let entries = c.args.entries.now in
     let image = image_of kind (g.R.Rack.holds c.args.rack.now) code entries c.args.self.now in
@@ -59,7 +59,7 @@ returns-in-Over g c =
 
 pub returns-in-Undefined : goal.returns-in-Undefined
 returns-in-Undefined g c =
-    let kind = g.Word.NumberKind.kind in
+    let kind = g.R.Word.NumberKind.kind in
     let code = c.args.code.now in
     let entries = c.args.entries.now in
     let image = image_of kind (g.R.Rack.holds c.args.rack.now) code entries c.args.self.now in
@@ -83,7 +83,7 @@ returns-in-Undefined g c =
 
 pub returns : goal.returns
 returns g c =
-    let kind = g.Word.NumberKind.kind in
+    let kind = g.R.Word.NumberKind.kind in
     let code = c.args.code.now in
     let entries = c.args.entries.now in
     let image = image_of kind (g.R.Rack.holds c.args.rack.now) code entries c.args.self.now in

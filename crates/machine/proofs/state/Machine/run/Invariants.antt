@@ -6,7 +6,7 @@ use Rattle.machine.proofs.state.Machine.run.Given as goal
 abbrev pub invariant-loop-left : goal.invariant-loop-left
 invariant-loop-left g l =
     (l.left ≤ l.steps)
-    × (run (image_of g.Word.NumberKind.kind (g.R.Rack.holds l.initial.rack) l.code l.entries
+    × (run (image_of g.R.Word.NumberKind.kind (g.R.Rack.holds l.initial.rack) l.code l.entries
     l.initial.self) (l.steps - l.left)
     (state_of l.initial.self l.initial.words (g.R.Rack.bays l.initial.rack))
     ≡ running (state_of l.self l.words (g.R.Rack.bays l.rack)))

@@ -7,7 +7,7 @@ pub returns : goal.returns
 returns g c =
     let m = c.args.self.now in
     let bays = g.R.Rack.bays c.args.rack.now in
-    let image = image_of g.Word.NumberKind.kind (g.R.Rack.holds c.args.rack.now) c.args.code.now
+    let image = image_of g.R.Word.NumberKind.kind (g.R.Rack.holds c.args.rack.now) c.args.code.now
     c.args.entries.now m in
     record {
       makes = alike _ m c.args.words.now bays _ _ _ _ _

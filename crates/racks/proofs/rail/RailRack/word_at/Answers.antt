@@ -3,8 +3,8 @@ use lib.Ieee.{nan}
 use Rattle.racks.proofs.Fronts.{nth-front, within-front}
 use Rattle.racks.proofs.rail.RailRack.word_at.Goals as goal
 
-pub offset-bounds-self-slot : goal.offset-bounds-self-slot
-offset-bounds-self-slot c =
+pub offset_bounds-self-slot : goal.offset_bounds-self-slot
+offset_bounds-self-slot c =
     let few : c.args.slot < 4096 = within-front 4096 c.args.self.now.floats.now c.args.slot c.requires in
     search rules
 
