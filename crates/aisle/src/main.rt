@@ -14,6 +14,7 @@ use outline::outline;
 use script::check_shape;
 use std::env;
 use std::io::{BufRead, BufReader};
+use std::process::ExitCode;
 use texts::job::JobText;
 use texts::table::{TableJob, TableReader};
 use walking::walk_job;
@@ -77,12 +78,14 @@ fn run(rt: &HostRuntime) -> anyhow::Result<()> {
 }
 
 // A text that cannot be read is told on standard error, and the program then ends with status 1.
-fn main(rt: HostRuntime) -> anyhow::Result<()> {
+// (An `Err` from here would be told a second time, so the status is given by itself.)
+fn main(rt: HostRuntime) -> ExitCode {
     match run(&rt) {
-        Ok(()) => Ok(()),
+        Ok(()) => ExitCode::SUCCESS,
         Err(error) => {
-            eprintln!(rt; "aisle: {error}")?;
-            Err(error)
+            // where standard error cannot be written either, the status alone is left to tell
+            let _ = eprintln!(rt; "aisle: {error}");
+            ExitCode::FAILURE
         }
     }
 }
