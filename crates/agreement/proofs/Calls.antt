@@ -14,7 +14,7 @@ use Rattle.code.specs.Scheme.{op}
 use Rattle.agreement.proofs.Scene.{Scene, setting_in}
 use Rattle.agreement.proofs.Live.{LiveState, goes, live_spend, live_enter, live_within, live_call, zw, live_step}
 use Rattle.agreement.proofs.Placed.{Apart, Has, PlacedStatement}
-use Rattle.agreement.proofs.Lists.{eqb-true, eqb-equal, ltb-true, ltb-false, nth-lt, oldest-append, apart-append}
+use Rattle.agreement.proofs.Lists.{eqb-true, eqb-equal, ltb-true, ltb-false, slice_get-lt, oldest-append, apart-append}
 use Rattle.agreement.proofs.Lists.{above-true}
 use Rattle.agreement.proofs.Extent.{needs_one_word}
 use Rattle.agreement.proofs.Relation.{Working, Surroundings, tree_state, machine_at, with_fuel_left, Fits, Any}
@@ -281,7 +281,7 @@ module _ {W : Type 0} (S : Scene W) (X : Surroundings W) where
           (sym hf) (at_bool (eqb (length X.frames) S.depth) refl)
         where
           hv : (end - start) + 3 ≤ length S.code
-          hv = omega (arith, nth-lt S.code (suc (suc end)) (op place Ret) site.link.return)
+          hv = omega (arith, slice_get-lt S.code (suc (suc end)) (op place Ret) site.link.return)
 
           -- the call over the caller's names and words
           called : List ℕ → List W → ℕ → Outcome W W

@@ -1,4 +1,4 @@
--- A well_named program as a scene: each function is linked, and so the agreement holds on the live words.
+-- A well-named program as a scene: each function is linked, and so the agreement holds on the live words.
 use Rattle.std.proofs.Common.{◌≡◌, ℕ, zero, suc, ◌+◌, ◌*◌, ◌≤◌, Bool, List, [], ◌∷◌, ◌++◌, map, reverse, length, pos, Some, sym, refl, subst, inr, zero-add, arith}
 use mathlib.Core.List.{reverse_aux}
 use Rattle.std.specs.List.{slice_get}
@@ -112,7 +112,7 @@ module _ {W : Type 0} (S : Scene W) where
         return = l.return;
       }
 
--- Of a well_named program, over a store with room for its frames: the run on the live words agrees with the tree run.
+-- Of a well-named program, over a store with room for its frames: the run on the live words agrees with the tree run.
 pub live-agreement :
     {W : Type 0} (kind : Kind W) (holds : W → Bool) (p : Program) (depth capacity : ℕ) → WellNamed p
     → length (global_names p) + (depth + 1) * largest_need p ≤ capacity

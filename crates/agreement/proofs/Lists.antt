@@ -37,10 +37,10 @@ ltb-false m n h = is_false (ltb m n) (λ t. (let l : m < n = ltb→lt m n t in o
 pub no-some : {A : Type 0} {a : A} → ◌≡◌ {A = Option A} None (Some a) → ⊥
 no-some {A} {a} e = let z : ◌≡◌ {A = ℕ} 0 1 = cc in omega arith
 
-pub nth-lt : {A : Type 0} (l : List A) (i : ℕ) (a : A) → slice_get l i ≡ Some a → i < length l
-nth-lt [] i a e = absurd (no-some e)
-nth-lt (x ∷ l) zero a e = omega arith
-nth-lt (x ∷ l) (suc i) a e = omega (arith, nth-lt l i a e)
+pub slice_get-lt : {A : Type 0} (l : List A) (i : ℕ) (a : A) → slice_get l i ≡ Some a → i < length l
+slice_get-lt [] i a e = absurd (no-some e)
+slice_get-lt (x ∷ l) zero a e = omega arith
+slice_get-lt (x ∷ l) (suc i) a e = omega (arith, slice_get-lt l i a e)
 
 pub some_inj : {A : Type 0} {a b : A} → ◌≡◌ {A = Option A} (Some a) (Some b) → a ≡ b
 some_inj e = cc

@@ -36,15 +36,15 @@ pub lies-right :
 lies-right code p q [] b h e = subst (λ (z : ℕ). Lies code z b) (let e₁ : p ≡ q = omega arith in e₁) h
 lies-right code p q (i ∷ a) b (h, hs) e = lies-right code (suc p) q a b hs (omega arith)
 
-nth_after : (before c : List Instruction) (i : Instruction) → slice_get (before ++ (i ∷ c)) (length before) ≡ Some i
-nth_after [] c i = refl
-nth_after (x ∷ before) c i = nth_after before c i
+slice_get-after : (before c : List Instruction) (i : Instruction) → slice_get (before ++ (i ∷ c)) (length before) ≡ Some i
+slice_get-after [] c i = refl
+slice_get-after (x ∷ before) c i = slice_get-after before c i
 
 lies-between :
     (before c after : List Instruction) (p : ℕ) → p ≡ length before → Lies (before ++ (c ++ after)) p c
 lies-between before [] after p e = tt
 lies-between before (i ∷ c) after p e = (
-  subst (λ (z : ℕ). slice_get (before ++ (i ∷ (c ++ after))) z ≡ Some i) (sym e) (nth_after before (c ++ after) i),
+  subst (λ (z : ℕ). slice_get (before ++ (i ∷ (c ++ after))) z ≡ Some i) (sym e) (slice_get-after before (c ++ after) i),
   subst (λ (z : List Instruction). Lies z (suc p) c) (append_assoc before (i ∷ []) (c ++ after))
       (lies-between (before ++ (i ∷ [])) c after (suc p) (simp length-append (omega arith))),
 )

@@ -13,7 +13,7 @@ use Rattle.code.specs.Scheme.{op}
 use Rattle.agreement.proofs.Scene.{Scene, setting_in}
 use Rattle.agreement.proofs.Live.{LiveState, LiveProgress, goes, stops, stuck, go_to, live_step, live_proceed, live_run}
 use Rattle.agreement.proofs.Placed.{Has, PlacedStatement}
-use Rattle.agreement.proofs.Lists.{nth-lt, oldest-append, above-true}
+use Rattle.agreement.proofs.Lists.{slice_get-lt, oldest-append, above-true}
 use Rattle.agreement.proofs.Relation.{Working, Surroundings, tree_state, machine_at, Fits, SameEnd, Unfinished, Reaches}
 use Rattle.agreement.proofs.Relation.{arrived, after_step, after_tick, at-step}
 use Rattle.agreement.proofs.Parts.{SimulatesValue}
@@ -196,7 +196,7 @@ module _ {W : Type 0} (S : Scene W) where
         }
 
     inside-code : suc q ≤ L
-    inside-code = nth-lt S.code q (op 0 Halt) closing
+    inside-code = slice_get-lt S.code q (op 0 Halt) closing
 
     -- From an instruction HALT.
     halts :

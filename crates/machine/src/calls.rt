@@ -1,5 +1,5 @@
 // Instructions on fuel, calls and the program counter.
-ghost use Rattle.std.specs.Prelude.{◌≡◌, ◌+◌, ◌-◌, ◌^◌, ◌<◌, ◌≤◌, false, [], length, set, Some, OnSome, slice_index_or, slice_set};
+ghost use Rattle.std.specs.Prelude.{◌≡◌, ◌+◌, ◌-◌, ◌^◌, ◌<◌, ◌≤◌, false, [], length, Some, OnSome, slice_index_or, slice_set};
 ghost use Rattle.std.specs.List.{slice_get};
 ghost use Rattle.kinds.specs.Words.{zero_word};
 ghost use Rattle.code.specs.declared.instruction.Operation.TheVariants.{Jmp, Tick, Call, Ret, Halt};
@@ -119,7 +119,7 @@ impl Machine {
     // Cuts the stack to the frame's start and puts the result there.
     fn cut_frame<W: NumberKind + Copy>(&mut self, words: &mut [W])
         requires { self.old.base < self.old.height }
-        ensures words { words.new ≡ set words.old self.old.base
+        ensures words { words.new ≡ slice_set words.old self.old.base
             (slice_index_or words.old (self.old.height - 1) (zero_word W.NumberKind.kind)) }
         ensures machine { MovedTo self.old self.new
             (self.old.base + 1) self.old.pc }

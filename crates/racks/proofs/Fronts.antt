@@ -7,9 +7,9 @@ use Rattle.std.proofs.lemmas.Option.{slice_get-get_or}
 pub within-front : {W : Type 0} (n : ℕ) (xs : List W) (i : ℕ) → i < length (take n xs) → i < n
 within-front n xs i within = omega (arith, length-take n xs)
 
-pub nth-front : {W : Type 0} (n : ℕ) (xs : List W) (i : ℕ) (d : W)
+pub slice_get-front : {W : Type 0} (n : ℕ) (xs : List W) (i : ℕ) (d : W)
     → i < length (take n xs) → Some (get_or xs i d) ≡ slice_get (take n xs) i
-nth-front n xs i d within =
+slice_get-front n xs i d within =
     ap Some (sym (get_or-take n xs i d (within-front n xs i within))) ∙ sym (slice_get-get_or (take n xs) i d within)
 
 pub take-replicate : {W : Type 0} (n m : ℕ) (a : W) → n ≤ m → take n (replicate m a) ≡ replicate n a

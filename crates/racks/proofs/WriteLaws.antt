@@ -7,17 +7,17 @@ use Rattle.racks.specs.declared.rack.BayFault.TheVariants.{NoSuchBay, CannotHold
 use Rattle.racks.specs.Writes.{write_answer, written}
 use Rattle.racks.specs.WriteLaws.{WriteLaws}
 
-nth-set-same : {W : Type 0} (xs : List W) (i : ℕ) (w : W) → i < length xs → slice_get (set xs i w) i ≡ Some w
-nth-set-same [] i w within = absurd (omega arith)
-nth-set-same (x ∷ xs) zero w within = refl
-nth-set-same (x ∷ xs) (suc i) w within = nth-set-same xs i w (omega arith)
+slice_get-set_same : {W : Type 0} (xs : List W) (i : ℕ) (w : W) → i < length xs → slice_get (set xs i w) i ≡ Some w
+slice_get-set_same [] i w within = absurd (omega arith)
+slice_get-set_same (x ∷ xs) zero w within = refl
+slice_get-set_same (x ∷ xs) (suc i) w within = slice_get-set_same xs i w (omega arith)
 
-nth-set-other : {W : Type 0} (xs : List W) (i : ℕ) (w : W) (j : ℕ) → (j ≡ i → ⊥) → slice_get (set xs i w) j ≡ slice_get xs j
-nth-set-other [] i w j apart = refl
-nth-set-other (x ∷ xs) zero w zero apart = absurd (apart refl)
-nth-set-other (x ∷ xs) zero w (suc j) apart = refl
-nth-set-other (x ∷ xs) (suc i) w zero apart = refl
-nth-set-other (x ∷ xs) (suc i) w (suc j) apart = nth-set-other xs i w j (λ e. apart (ap suc e))
+slice_get-set_other : {W : Type 0} (xs : List W) (i : ℕ) (w : W) (j : ℕ) → (j ≡ i → ⊥) → slice_get (set xs i w) j ≡ slice_get xs j
+slice_get-set_other [] i w j apart = refl
+slice_get-set_other (x ∷ xs) zero w zero apart = absurd (apart refl)
+slice_get-set_other (x ∷ xs) zero w (suc j) apart = refl
+slice_get-set_other (x ∷ xs) (suc i) w zero apart = refl
+slice_get-set_other (x ∷ xs) (suc i) w (suc j) apart = slice_get-set_other xs i w j (λ e. apart (ap suc e))
 
 -- ---- by the two tests of a write: is there such a bay, and can it hold the word
 
@@ -58,7 +58,7 @@ module _ {W : Type 0} (holds : W → Bool) (bays : List W) where
       let tests = both (ltb slot (length bays)) (holds word) took in
       let within : ltb slot (length bays) ≡ true = tests.0 in
       let held : holds word ≡ true = tests.1 in
-      rw (within, held) (nth-set-same bays slot word (ltb-true slot (length bays) within))
+      rw (within, held) (slice_get-set_same bays slot word (ltb-true slot (length bays) within))
 
   pub write-laws : WriteLaws holds bays
   write-laws = record {
@@ -70,7 +70,7 @@ module _ {W : Type 0} (holds : W → Bool) (bays : List W) where
     reads_back = reads_back;
     others_stay = λ slot word other apart.
         either (λ xs. slice_get xs other) (ltb slot (length bays) && holds word) (set bays slot word) bays
-        (nth-set-other bays slot word other apart);
+        (slice_get-set_other bays slot word other apart);
     same_length = λ slot word.
         either length (ltb slot (length bays) && holds word) (set bays slot word) bays (length-set bays slot word);
   }

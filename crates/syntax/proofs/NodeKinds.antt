@@ -36,15 +36,15 @@ row_for is.Unknown = unknown
 abbrev own_row : Row → Row
 own_row r = row_for r.node
 
-get_d_map : (xs : List Row) (i : ℕ) → get_or (map own_row xs) i unknown ≡ own_row (get_or xs i unknown)
-get_d_map [] i = refl
-get_d_map (x ∷ xs) zero = refl
-get_d_map (x ∷ xs) (suc i) = get_d_map xs i
+get_or-map : (xs : List Row) (i : ℕ) → get_or (map own_row xs) i unknown ≡ own_row (get_or xs i unknown)
+get_or-map [] i = refl
+get_or-map (x ∷ xs) zero = refl
+get_or-map (x ∷ xs) (suc i) = get_or-map xs i
 
 -- Every row of the table is the one that says its kind.
 pub row_is : (k : ℕ) → row_of k ≡ row_for (node_of k)
 unfolding row_of
-row_is k = get_d_map rows k
+row_is k = get_or-map rows k
 
 -- A record that fits is of the sort that is wanted.
 pub suited : (w : Sort) (r : Record) (p : ℕ) (q : Row) → fitting w r p ≡ Ok q → T (suits w (row_for (node_of r.kind)).sort)
