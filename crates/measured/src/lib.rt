@@ -30,8 +30,7 @@ const COUNTING: &[Instruction; 19] = &[
 ];
 
 // Runs the script with this much fuel, at most so many steps, and gives the steps made.
-#[unsafe(no_mangle)]
-pub extern "C" fn tuzsompa_counting_steps(fuel: u32, steps: u32) -> u32 {
+pub fn tuzsompa_counting_steps(fuel: u32, steps: u32) -> u32 {
     let mut words = [0i32; 16];
     let mut bays = BayTable::new(1);
     let mut machine = Machine::new(1, 0, fuel);
