@@ -6,10 +6,6 @@ ghost use Rattle.cases.specs.CellCases.{CellCases, end_bay_seen};
 ghost use Rattle.cases.specs.WorkedCases.{WorkedCases};
 
 use code::cases::end_bay_code_stands;
-use names::laws::name_cases_hold;
-use script::examples::shape_cases_hold;
-use treerun::cases::cases_stand;
-use walk::cases::walk_cases_hold;
 
 // The worked cases of the cell.
 pub fn cell_cases_hold() -> u8
@@ -30,10 +26,7 @@ pub fn end_bay_steps() -> u32
 pub fn worked_cases_hold() -> u8
     ensures { WorkedCases }
 {
-    let _ = shape_cases_hold();
-    let _ = name_cases_hold();
-    let _ = cases_stand();
-    let _ = walk_cases_hold();
+    let _ = walk::cases::worked_cases_hold();
     let _ = end_bay_code_stands();
     let _ = cell_cases_hold();
     0

@@ -3,4 +3,3 @@ pub mod Lent
 pub mod Ready
 pub mod Walked
 pub mod WorkedCases
-pub mod WalkCases

@@ -3,10 +3,7 @@ use Rattle.cases.proofs.worked_cases_hold.Goals as goal
 
 pub returns : goal.returns
 returns c = record {
-  shapes = c.shape_cases_hold.ensures;
-  names = c.name_cases_hold.ensures;
-  tree_runs = c.cases_stand.ensures;
-  walks = c.walk_cases_hold.ensures;
+  tables_and_walks = c.worked_cases_hold.ensures;
   code = c.end_bay_code_stands.ensures;
   cells = c.cell_cases_hold.ensures;
 }
