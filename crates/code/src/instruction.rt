@@ -30,6 +30,13 @@ pub struct Instruction {
     pub place: usize,
 }
 
+// The code of a program: its instructions, and where its functions begin.
+#[derive(Clone, Copy)]
+pub struct Code<'a> {
+    pub instructions: &'a [Instruction],
+    pub entries: &'a [FunctionEntry],
+}
+
 // Where a function's code begins, and how many parameters it has.
 #[derive(Clone, Copy)]
 pub struct FunctionEntry {

@@ -2,6 +2,7 @@
 #![tactic(auto)]
 
 pub mod check;
+pub mod context;
 mod expressions;
 pub mod find;
 mod frame;
@@ -12,6 +13,7 @@ pub mod signature;
 mod statements;
 pub mod summary;
 
+pub use context::Context;
 pub use check::{check_names, check_table};
 pub use signature::Signature;
 pub use summary::Summary;

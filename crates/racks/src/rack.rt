@@ -1,16 +1,30 @@
 // What a rack is to the code above it.
 ghost use Rattle.std.specs.Prelude.{◌≡◌, ◌≤◌, Bool, List, length};
 ghost use Rattle.std.specs.List.{slice_get};
+ghost use Rattle.racks.specs.Faults.{ending_of};
 ghost use Rattle.racks.specs.Loans.{Loan};
 ghost use Rattle.racks.specs.Writes.{write_answer, written};
 
 use kinds::NumberKind;
+use script::Ending;
 
 // Why a write was refused. There is no third reason.
 #[derive(Clone, Copy, PartialEq, Eq, Debug)]
 pub enum BayFault {
     NoSuchBay,
     CannotHold,
+}
+
+// How a run ends whose bay was refused.
+impl From<BayFault> for Ending {
+    ghost from_gives = { λ fault ending. ending ≡ ending_of fault };
+
+    fn from(fault: BayFault) -> Ending {
+        match fault {
+            BayFault::NoSuchBay => Ending::NoSuchBay,
+            BayFault::CannotHold => Ending::CannotHold,
+        }
+    }
 }
 
 // A rack is a list of words of one number kind, `bays`, and a yes or no for each word: can a bay

@@ -30,3 +30,10 @@ impl Ending {
         }
     }
 }
+
+// How a run has ended, and at which record; place 0 where it is done.
+#[derive(Clone, Copy, PartialEq, Eq, Debug)]
+pub struct RunEnd {
+    pub ending: Ending,
+    pub place: usize,
+}

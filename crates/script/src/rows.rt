@@ -5,7 +5,7 @@ ghost use Rattle.script.specs.Rows.{rows, row_of, unknown, amount, part_count, s
 use crate::record::Record;
 
 // What a record is. `Declaration` is only ever wanted: a variable declaration or a function suits it.
-#[derive(Clone, Copy)]
+#[derive(Clone, Copy, PartialEq, Eq, Debug)]
 pub enum Sort {
     Unknown,
     Expression,
@@ -24,13 +24,13 @@ impl Sort {
     {
         match self {
             Sort::Declaration => matches!(found, Sort::Variable | Sort::Function),
-            _ => self as u8 == found as u8,
+            _ => self == found,
         }
     }
 }
 
 // The operator of an expression with two parts.
-#[derive(Clone, Copy)]
+#[derive(Clone, Copy, PartialEq, Eq, Debug)]
 pub enum Operator {
     Sum,
     Difference,
@@ -38,7 +38,7 @@ pub enum Operator {
 }
 
 // Which node of the language a record is.
-#[derive(Clone, Copy)]
+#[derive(Clone, Copy, PartialEq, Eq, Debug)]
 pub enum NodeKind {
     Unknown,
     Number,
@@ -60,7 +60,7 @@ pub enum NodeKind {
 }
 
 // How many parts of one sort a record has: always as many, or as many as a field says.
-#[derive(Clone, Copy)]
+#[derive(Clone, Copy, PartialEq, Eq, Debug)]
 pub enum Count {
     Fixed(u16),
     FieldA,
@@ -80,7 +80,7 @@ impl Count {
 }
 
 // Which values a field may have: 0 up to a largest one, or any.
-#[derive(Clone, Copy)]
+#[derive(Clone, Copy, PartialEq, Eq, Debug)]
 pub enum Bound {
     UpTo(u16),
     Any,
@@ -97,14 +97,14 @@ impl Bound {
     }
 }
 
-#[derive(Clone, Copy)]
+#[derive(Clone, Copy, PartialEq, Eq, Debug)]
 pub struct Parts {
     pub count: Count,
     pub sort: Sort,
 }
 
 // A record's parts are its `first` parts, then its `second` parts.
-#[derive(Clone, Copy)]
+#[derive(Clone, Copy, PartialEq, Eq, Debug)]
 pub struct Row {
     pub node: NodeKind,
     pub sort: Sort,
