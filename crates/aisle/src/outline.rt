@@ -3,6 +3,7 @@ use crate::wording::Described;
 use script::Record;
 use script::rows::part_count;
 use std::alloc::{AllocError, Global};
+use std::fmt::Write;
 
 // How deeply the next record is nested, by the parts that the records around it still want.
 #[derive(Drop)]
@@ -42,13 +43,11 @@ pub fn outline(heap: Global, table: &[Record]) -> Result<String, AllocError> {
     let mut text = String::new(heap);
     let mut nesting = Nesting::new(heap);
     for (index, record) in table.iter().enumerate() {
-        let number = format!(in heap; "{index:>4} ")?;
-        text.push_str(number.as_str())?;
+        write!(text, "{index:>4} ")?;
         for _ in 0..nesting.depth() {
             text.push_str("  ")?;
         }
-        let line = format!(in heap; "{}\n", Described(*record))?;
-        text.push_str(line.as_str())?;
+        writeln!(text, "{}", Described(*record))?;
         nesting.enter(*record)?;
     }
     Ok(text)
