@@ -59,9 +59,7 @@ fn check_and_walk(rt: &HostRuntime) -> anyhow::Result<()> {
 }
 
 fn run(rt: &HostRuntime) -> anyhow::Result<()> {
-    let mut arguments = env::args(rt)?;
-    let _ = arguments.next();
-    let Some(word) = arguments.next() else {
+    let Some(word) = env::args(rt)?.nth(1) else {
         return perform_job(rt, read_input(rt, JobReader::new(rt.alloc()))?);
     };
     match word.as_str() {

@@ -20,3 +20,41 @@ pub enum TextError<P: TextProblem> {
 pub(crate) fn fault<P: TextProblem>(line: usize, problem: P) -> TextError<P> {
     TextError::Fault { line, problem }
 }
+
+#[cfg(test)]
+mod tests {
+    use super::*;
+    use crate::job::{JobError, JobProblem};
+    use crate::table::{TableError, TableProblem};
+    use std::test::Fail;
+
+    #[test]
+    fn errors_are_worded(rt: HostRuntime) -> Result<(), Fail> {
+        let job: JobError = fault(7, JobProblem::BadNumber);
+        assert_eq!(rt;
+            job.to_string(rt.alloc())?.as_str(),
+            "line 7: a number is missing, or does not fit"
+        );
+        let table: TableError = fault(1, TableProblem::KindRange);
+        assert_eq!(rt;
+            table.to_string(rt.alloc())?.as_str(),
+            "line 1: a kind is a number from 0 to 255"
+        );
+        Ok(())
+    }
+
+    #[test]
+    fn want_of_memory_is_worded(rt: HostRuntime) -> Result<(), Fail> {
+        let job: JobError = AllocError.into();
+        assert_eq!(rt;
+            job.to_string(rt.alloc())?.as_str(),
+            "there is not enough memory for the job"
+        );
+        let table: TableError = AllocError.into();
+        assert_eq!(rt;
+            table.to_string(rt.alloc())?.as_str(),
+            "there is not enough memory for the table"
+        );
+        Ok(())
+    }
+}

@@ -218,7 +218,6 @@ fn record_of(kind: &str, a: Option<&str>, v: Option<&str>) -> Option<Record> {
 mod tests {
     use super::*;
     use crate::read_text;
-    use std::alloc::AllocError;
     use std::test::Fail;
 
     #[test]
@@ -307,20 +306,5 @@ mod tests {
             let found = read_text(JobReader::new(rt.alloc()), text).err();
             assert_eq!(rt; found, Some(fault(line, problem)), "{text}");
         }
-    }
-
-    #[test]
-    fn problems_are_worded(rt: HostRuntime) -> Result<(), Fail> {
-        let bad: JobError = fault(7, JobProblem::BadNumber);
-        assert_eq!(rt;
-            bad.to_string(rt.alloc())?.as_str(),
-            "line 7: a number is missing, or does not fit"
-        );
-        let none: JobError = AllocError.into();
-        assert_eq!(rt;
-            none.to_string(rt.alloc())?.as_str(),
-            "there is not enough memory for the job"
-        );
-        Ok(())
     }
 }

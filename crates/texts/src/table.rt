@@ -98,7 +98,7 @@ enum Begun {
 }
 
 // A text that was read.
-#[derive(PartialEq, Eq, Debug, Drop)]
+#[derive(Drop)]
 pub struct TableJob {
     pub table: Vec<Record>,
     pub settings: Settings,
@@ -176,15 +176,13 @@ impl LineReader for TableReader {
 
     // The text must not end within a record or a setting.
     fn finish(self) -> Result<TableJob, TableError> {
-        match self.begun {
-            Begun::Nothing => Ok(TableJob {
-                table: self.records,
-                settings: self.settings,
-            }),
-            Begun::Setting(_) | Begun::Kind(_) | Begun::KindAndName(_, _) => {
-                Err(fault(self.line, TableProblem::Incomplete))
-            }
-        }
+        let Begun::Nothing = self.begun else {
+            return Err(fault(self.line, TableProblem::Incomplete));
+        };
+        Ok(TableJob {
+            table: self.records,
+            settings: self.settings,
+        })
     }
 }
 
@@ -198,11 +196,21 @@ mod tests {
     fn records_are_read(rt: HostRuntime) -> Result<(), Fail> {
         let text = "# none yet\n 1 0 -7 fuel\n9 2 # a variable\n\n\t255 0\n";
         let job = read_text(TableReader::new(rt.alloc()), text)?;
-        assert_eq!(rt; job.settings.limits.fuel, 9);
-        let table = job.table;
-        assert!(rt; table.len() == 2);
-        assert_eq!(rt; table[0].v, -7);
-        assert_eq!(rt; table[1].a, 255);
+        let limits = Limits { fuel: 9, depth: 63 };
+        assert_eq!(rt; job.settings, Settings { limits, ..DEFAULTS });
+        let table = [
+            Record {
+                kind: 1,
+                a: 0,
+                v: -7,
+            },
+            Record {
+                kind: 2,
+                a: 255,
+                v: 0,
+            },
+        ];
+        assert_eq!(rt; job.table.as_slice(), table.as_slice());
         Ok(())
     }
 
