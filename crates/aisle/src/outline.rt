@@ -24,15 +24,12 @@ impl Nesting {
 
     // The next record takes the place of a part, and its own parts come next.
     pub fn enter(&mut self, record: Record) -> Result<(), AllocError> {
-        if let Some(wanted) = self.wanted.pop() {
-            self.wanted.push(wanted.saturating_sub(1))?;
+        if let Some(wanted) = self.wanted.last_mut() {
+            *wanted = wanted.saturating_sub(1);
         }
         self.wanted.push(part_count(record))?;
-        while let Some(wanted) = self.wanted.pop() {
-            if wanted > 0 {
-                self.wanted.push(wanted)?;
-                return Ok(());
-            }
+        while let Some(0) = self.wanted.last() {
+            let _ = self.wanted.pop();
         }
         Ok(())
     }
