@@ -9,6 +9,7 @@ use script::{Ending, Refusal, RunEnd};
 use std::{fmt, io};
 use texts::job::{CallLine, Job, RackChoice};
 
+// By hand, since a `From` would stand in a crate of one of the two types.
 fn call_of(line: &CallLine) -> Call<'_> {
     match line {
         CallLine::Load(table) => Call::Load(table.as_slice()),

@@ -1,4 +1,5 @@
-// What is printed of a record, a refusal and an ending, for the technician who drew the table.
+// What is printed of a record, a refusal and an ending, for the technician who drew the table: each in a struct of its
+// own, since its type is of another crate, which does not print.
 use script::rows::{NodeKind, Operator, row_of};
 use script::{Ending, Record, Refusal, RunEnd};
 use std::fmt;

@@ -52,6 +52,7 @@ const DEFAULTS: Settings = Settings {
 };
 
 impl Settings {
+    // A method that gives the field as a `&mut` would be the same match, with a borrow besides.
     fn set(&mut self, setting: Setting, value: u32) {
         match setting {
             Setting::Bays => self.bays = value,
