@@ -129,13 +129,9 @@ mod tests {
             node(2, 7, 0),
             node(1, 0, 2),
         ];
-        match check_table(&table) {
-            Ok(summary) => {
-                assert!(rt; summary.globals == 1 && summary.need == 2 && summary.main == 2);
-                Ok(())
-            },
-            Err(_) => Err(Fail::new("refused")),
-        }
+        let summary = check_table(&table).map_err(|_| Fail::new("refused"))?;
+        assert_eq!(rt; (summary.globals, summary.need, summary.main), (1, 2, 2));
+        Ok(())
     }
 
     #[test]
@@ -147,12 +143,7 @@ mod tests {
             node(16, 0, 0),
             node(2, 9, 0),
         ];
-        match check_table(&table) {
-            Err(Refusal::DeclaredTwice(at)) => {
-                assert_eq!(rt; at, 2);
-                Ok(())
-            },
-            _ => Err(Fail::new("not refused for its names")),
-        }
+        assert_eq!(rt; check_table(&table), Err(Refusal::DeclaredTwice(2)));
+        Ok(())
     }
 }

@@ -10,7 +10,7 @@ use script::rows::NodeKind;
 use syntax::parts::{node_kind, part_count, statement_count};
 
 // What a part needs, and the index after it.
-#[derive(Clone, Copy)]
+#[derive(Clone, Copy, PartialEq, Eq, Debug)]
 pub struct Measured {
     pub words: usize,
     pub next: usize,
