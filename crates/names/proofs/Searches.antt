@@ -1,11 +1,12 @@
 -- One step of a search through names or functions.
-use Rattle.std.proofs.Common.{◌≡◌, ◌≢◌, ℕ, zero, suc, ◌+◌, ◌-◌, ◌<◌, ◌≤◌, true, cond, eqb, List, [], ◌∷◌, ◌++◌, reverse, length, get_or, take, drop, Some, None, Option, sym, refl, ap, ◌∙◌, arith, eq-eqb, ne_eqb}
-use Rattle.std.proofs.lemmas.List.{take_more, take_all, drop_more, reverse-append, length-reverse, length-take-le}
-use Rattle.script.specs.declared.refusal.Refusal.TheVariants.{ArgumentCount}
+use Rattle.std.proofs.Common.{◌≡◌, ◌≢◌, ◌==◌, ℕ, zero, suc, ◌+◌, ◌-◌, ◌<◌, ◌≤◌, Bool, true, false, cond, eqb, List, [], ◌∷◌, ◌++◌, reverse, length, get_or, take, is_some, Some, None, Option, Ok, Err, Bor, sym, refl, ap, ◌∙◌, arith, eq-eqb, ne_eqb}
+use Rattle.std.specs.Option.{option_copied}
+use Rattle.std.proofs.lemmas.List.{take_more, take_all, reverse-append, length-reverse, length-take-le}
+use Rattle.script.specs.declared.refusal.Refusal.TheVariants.{ArgumentCount, Undeclared}
 use Rattle.syntax.specs.Syntax.{locate}
 use Rattle.names.specs.declared.signature.Signature.{Signature}
-use Rattle.names.specs.Search.{Newest}
-use Rattle.names.specs.Names.{unless, call_rule, is_function}
+use Rattle.names.specs.Search.{Newest, signature_named}
+use Rattle.names.specs.Names.{Answer, unless, call_rule, is_function}
 
 -- The newest of some names, and those before it.
 locate-newest : (x y : ℕ) (names : List ℕ) →
@@ -38,19 +39,36 @@ module _ (names : List ℕ) (x : ℕ) where
       sym (past (length names - (i + 1)) (i + 1) (omega (arith, h.0)) (λ k l u. h.2 k (omega arith) u)
       ∙ (step i h.0 ∙ rw (eq-eqb x (get_or names i 0) (sym h.1)) refl))
 
--- The search among the functions from the i-th on.
-module _ (functions : List Signature) (x i : ℕ) (d : Signature) (h : i < length functions) where
-  pub call-here : (count place : ℕ) → (get_or functions i d).name ≡ x →
-      call_rule x (drop i functions) count place ≡ unless (eqb count (get_or functions i d).count) (ArgumentCount place)
-  call-here count place e = rw (drop_more functions i d h, eq-eqb x (get_or functions i d).name (sym e)) refl
+-- What the rules ask of the functions, by the first of a name.
+module _ (x : ℕ) where
+  is-named : (functions : List Signature) → is_some (signature_named x functions) ≡ is_function x functions
+  is-named [] = refl
+  is-named (f ∷ functions) =
+      elim (x == f.name) as (λ b. is_some (cond b (Some f) (signature_named x functions))
+      ≡ cond b true (is_function x functions)) [ true ↦ refl | false ↦ is-named functions ]
 
-  pub call-past : (count place : ℕ) → ((get_or functions i d).name ≡ x → ⊥) →
-      call_rule x (drop i functions) count place ≡ call_rule x (drop (i + 1) functions) count place
-  call-past count place e = rw (drop_more functions i d h, ne_eqb x (get_or functions i d).name (λ p. e (sym p))) refl
+  pub function-found : (functions : List Signature) (found : Option (Bor Signature)) →
+      option_copied found ≡ signature_named x functions → is_some found ≡ is_function x functions
+  function-found functions None e = ap is_some e ∙ is-named functions
+  function-found functions (Some f) e = ap is_some e ∙ is-named functions
 
-  pub function-here : (get_or functions i d).name ≡ x → is_function x (drop i functions) ≡ true
-  function-here e = rw (drop_more functions i d h, eq-eqb x (get_or functions i d).name (sym e)) refl
+  module _ (count place : ℕ) where
+    abbrev by_signature : Option Signature → Answer
+    by_signature None = Err (Undeclared place)
+    by_signature (Some f) = unless (count == f.count) (ArgumentCount place)
 
-  pub function-past : ((get_or functions i d).name ≡ x → ⊥) → is_function x (drop i functions)
-      ≡ is_function x (drop (i + 1) functions)
-  function-past e = rw (drop_more functions i d h, ne_eqb x (get_or functions i d).name (λ p. e (sym p))) refl
+    call-named : (functions : List Signature) →
+        by_signature (signature_named x functions) ≡ call_rule x functions count place
+    call-named [] = refl
+    call-named (f ∷ functions) =
+        elim (x == f.name) as (λ b. by_signature (cond b (Some f) (signature_named x functions))
+        ≡ cond b (unless (count == f.count) (ArgumentCount place)) (call_rule x functions count place))
+        [ true ↦ refl | false ↦ call-named functions ]
+
+    pub call-unknown : (functions : List Signature) → None ≡ signature_named x functions →
+        Err (Undeclared place) ≡ call_rule x functions count place
+    call-unknown functions e = ap by_signature e ∙ call-named functions
+
+    pub call-known : (functions : List Signature) (f : Signature) → Some f ≡ signature_named x functions →
+        unless (count == f.count) (ArgumentCount place) ≡ call_rule x functions count place
+    call-known functions f e = ap by_signature e ∙ call-named functions

@@ -1,7 +1,9 @@
 // What is declared: names in scope, and functions.
 ghost use Rattle.std.specs.Prelude.{◌≡◌, not, reverse, ◌==◌};
+ghost use Rattle.std.specs.Option.{option_copied};
 ghost use Rattle.script.specs.declared.refusal.Refusal.TheVariants.{DeclaredTwice, ArgumentCount};
 ghost use Rattle.names.specs.Names.{call_rule, declared, is_function, unless};
+ghost use Rattle.names.specs.Search.{signature_named};
 
 use crate::find::find;
 use crate::signature::Signature;
@@ -14,16 +16,18 @@ pub fn is_declared(globals: &[u16], scope: &[u16], name: u16) -> bool
     find(scope, name).is_some() || find(globals, name).is_some()
 }
 
+// The first function of that name.
+fn function_named(functions: &[Signature], name: u16) -> Option<&Signature>
+    ensures { option_copied result ≡ signature_named name functions.now }
+{
+    functions.iter().find(|f| f.name == name)
+}
+
 // Is there a function of that name.
 pub fn is_function(functions: &[Signature], name: u16) -> bool
     ensures { result ≡ is_function name functions.now }
 {
-    for function in functions {
-        if function.name == name {
-            return true;
-        }
-    }
-    false
+    function_named(functions, name).is_some()
 }
 
 // A name that is declared is new.
@@ -58,10 +62,6 @@ pub fn check_call(
 ) -> Result<(), Refusal>
     ensures { result ≡ call_rule name functions.now count place }
 {
-    for function in functions {
-        if function.name == name {
-            return check_count(count, function.count, place);
-        }
-    }
-    Err(Refusal::Undeclared(place))
+    let function = function_named(functions, name).ok_or(Refusal::Undeclared(place))?;
+    check_count(count, function.count, place)
 }

@@ -1,24 +1,10 @@
-use Rattle.std.proofs.Common.{List, sym, ap, ◌∙◌}
-use Rattle.std.proofs.lemmas.List.{drop_all}
-use Rattle.names.specs.declared.signature.Signature.{Signature}
-use Rattle.names.specs.Names.{call_rule}
-use Rattle.names.proofs.Searches.{call-here, call-past}
+use Rattle.std.proofs.Common.{arith}
+use Rattle.std.proofs.lemmas.Grind.{common_steps}
+use Rattle.names.proofs.Searches.{call-known, call-unknown}
 use Rattle.names.proofs.lookups.check_call.Goals as goal
 
-pub returns-then-function-name : goal.returns-then-function-name
-returns-then-function-name c =
-    c.check_count.ensures
-    ∙ sym (sym c.loop-function.invariant
-    ∙ call-here _ _ _ _ c.loop-function-test.true c.args.count c.args.place c.if-function-name.true)
-
-pub loop-function-preserved : goal.loop-function-preserved
-loop-function-preserved c =
-    sym (call-past _ _ _ _ c.loop-function-test.true c.args.count c.args.place
-    c.if-function-name.false)
-    ∙ c.loop-function.invariant
+pub returns-in_err-function : goal.returns-in_err-function
+returns-in_err-function c = grind (arith, common_steps, call-unknown)
 
 pub returns : goal.returns
-returns c =
-    sym (sym c.loop-function.invariant
-    ∙ ap (λ (l : List Signature). call_rule c.args.name l c.args.count c.args.place)
-    (drop_all c.loop-function.function-index c.args.functions.now c.loop-function-test.false))
+returns c = grind (arith, common_steps, call-known)
