@@ -1,7 +1,9 @@
 pub mod Searches
+pub mod Several
 pub mod Outcomes
 pub mod Rules
 pub mod Scopes
+pub mod Growth
 pub mod Globals
 pub mod Functions
 pub mod Programs

@@ -13,6 +13,10 @@ pub last : (a : Answer) → a ⨟ Ok tt ≡ a
 last (Ok tt) = refl
 last (Err e) = refl
 
+pub regroup : (a b c : Answer) → a ⨟ b ⨟ c ≡ (a ⨟ b) ⨟ c
+regroup (Ok u) b c = refl
+regroup (Err e) b c = refl
+
 module _ {A : Type 0} where
   -- The first refusal stands.
   pub refused : {B : Type 0} (a b : Answer) (n : B) (m : A) (y : Refusal) → Err y ≡ outcome a n → Err y

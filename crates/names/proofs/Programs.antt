@@ -8,15 +8,11 @@ use Rattle.names.specs.declared.signature.Signature.{Signature}
 use Rattle.names.specs.Need.{largest_need}
 use Rattle.names.specs.Names.{Answer, ◌⨟◌, unless, signature, global_rules, function_rules, statement_rules, name_rules}
 use Rattle.names.specs.Passes.{outcome}
-use Rattle.names.proofs.Outcomes.{refused}
+use Rattle.names.proofs.Outcomes.{refused, regroup}
 
 -- The global names, oldest first and newest first.
 pub global-names : (p : Program) → reverse (map name_of (globals_of p)) ≡ global_names p
 global-names p = bound (globals_of p) []
-
-regroup : (a b c : Answer) → a ⨟ b ⨟ c ≡ (a ⨟ b) ⨟ c
-regroup (Ok u) b c = refl
-regroup (Err e) b c = refl
 
 -- What the pass over the global declarations found, from empty stacks.
 module _ (p : Program) (ds : List Declaration) (is : ds ≡ p.declarations) (globals : List ℕ)

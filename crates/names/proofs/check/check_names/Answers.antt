@@ -32,7 +32,11 @@ declarations-requires c =
     let s₁ : capacity c.cut.new.self ≡ capacity c.args.globals.now = ap length c.cut.ensures.words in
     let s₂ : capacity c.cut-2.new.self
     ≡ capacity c.args.functions.now = ap length c.cut-2.ensures.words in
-    record { within = omega arith; sound = p.declared; names = omega arith; calls = omega arith }
+    record {
+      parts = record { within = omega arith; sound = p.declared };
+      names = omega arith;
+      calls = omega arith;
+    }
 
 pub returns-in_err-found : goal.returns-in_err-found
 returns-in_err-found c =
@@ -170,10 +174,10 @@ returns c =
     let own : c.statement.result.words ≡ need_statement program.main = c.statement.ensures.words
     ∙ ap need_statement (sym main) in
     let goal : c.max-need.result ≡ largest_need program = omega (arith, c.max-need.ensures) in
-    let variable-count : length c.live-3.result.now ≡ length (globals_of program) =
-    ap length (c.live-3.ensures ∙ variables) ∙ length-map (globals_of program) name_of in
-    let function-count : length c.live-4.result.now ≡ length (functions_of program.declarations) =
-    ap length (c.live-4.ensures ∙ signatures) ∙ length-map (functions_of program.declarations) signature in
+    let variable-count : length c.live.result.now ≡ length (globals_of program) =
+    ap length (c.live.ensures ∙ variables) ∙ length-map (globals_of program) name_of in
+    let function-count : length c.live-2.result.now ≡ length (functions_of program.declarations) =
+    ap length (c.live-2.ensures ∙ signatures) ∙ length-map (functions_of program.declarations) signature in
     record {
       answer = accepted program _ fine _ _ names calls v.0 _ goal c.in_ok-check_need.ensures
           ∙ ap (outcome (name_rules program)) (same-summary _ _ _ _ _ _ _ _ variable-count function-count goal v.1);

@@ -10,42 +10,48 @@ use Rattle.names.specs.declared.signature.Signature.{Signature}
 use Rattle.names.specs.Names.{statement_rules}
 use Rattle.names.proofs.Outcomes.{refused, refused-after, went, both-fine}
 use Rattle.names.proofs.Scopes.{empty-scope}
-use Rattle.names.proofs.check.check_bodies.Goals as goal
+use Rattle.names.proofs.context.Context.check_bodies.Goals as goal
 
 pub bodies-requires : goal.bodies-requires
 bodies-requires c =
-    let table : List Record = c.args.table.now in
-    let p = programmed table (get_or table 0 no_record).a _ no_record c.requires.within.0 c.requires.sound refl refl in
+    let table : List Record = c.args.self.now.table.now in
+    let p = programmed table (get_or table 0 no_record).a _ no_record c.requires.program.within c.requires.program.sound refl refl in
     let store : capacity c.new-scope.result ≡ 1024 = ap length c.new-scope.ensures.words in
-    record { within = omega arith; sound = p.declared; room = omega arith }
+    record {
+      parts = record { within = omega (arith, c.requires.program.within); sound = p.declared };
+      room = omega arith;
+    }
 
 pub returns-in_err-main : goal.returns-in_err-main
 returns-in_err-main c =
-    let table : List Record = c.args.table.now in
-    let p = programmed table (get_or table 0 no_record).a _ no_record c.requires.within.0 c.requires.sound refl refl in
+    let table : List Record = c.args.self.now.table.now in
+    let p = programmed table (get_or table 0 no_record).a _ no_record c.requires.program.within c.requires.program.sound refl refl in
     let q = err_from_is_err_and c.from_residual.result c.from_residual.ensures.1 in
     rw (q.1, q.2, p.is) (refused _ _ _ _ _ c.in_err-main.ensures.answer)
 
 pub statement-requires : goal.statement-requires
 statement-requires c =
-    let table : List Record = c.args.table.now in
+    let table : List Record = c.args.self.now.table.now in
     let w = went _ _ _ c.in_ok-main.ensures.answer in
-    let p = programmed table (get_or table 0 no_record).a c.in_ok-main.main no_record c.requires.within.0
-    c.requires.sound refl w.1 in
+    let p = programmed table (get_or table 0 no_record).a c.in_ok-main.main no_record c.requires.program.within
+    c.requires.program.sound refl w.1 in
     let store : capacity c.new-scope.result ≡ 1024 = ap length c.new-scope.ensures.words in
     let cut : capacity c.cut.new.self
     ≡ capacity c.bodies.new.scope = ap length c.cut.ensures.words in
     let low : c.cut.new.self.height ≡ 0 = c.cut.ensures.height in
-    record { within = p.within; sound = p.body; room = omega (arith, c.in_ok-main.ensures.store) }
+    record {
+      part = record { within = p.within; sound = p.body };
+      room = omega (arith, c.in_ok-main.ensures.store);
+    }
 
 pub returns-in_err-statement : goal.returns-in_err-statement
 returns-in_err-statement c =
-    let table : List Record = c.args.table.now in
+    let table : List Record = c.args.self.now.table.now in
     let w = went _ _ _ c.in_ok-main.ensures.answer in
-    let p = programmed table (get_or table 0 no_record).a c.in_ok-main.main no_record c.requires.within.0
-    c.requires.sound refl w.1 in
-    let globals : List ℕ = reverse c.args.globals.now in
-    let functions : List Signature = c.args.functions.now in
+    let p = programmed table (get_or table 0 no_record).a c.in_ok-main.main no_record c.requires.program.within
+    c.requires.program.sound refl w.1 in
+    let globals : List ℕ = reverse c.args.self.now.globals.now in
+    let functions : List Signature = c.args.self.now.functions.now in
     let main : Statement = statement_at table c.in_ok-main.main in
     let empty : contents c.cut.new.self
     ≡ [] = ap (λ (h : ℕ). take h c.cut.new.self.words.now) c.cut.ensures.height in
@@ -57,12 +63,12 @@ returns-in_err-statement c =
 
 pub returns : goal.returns
 returns c =
-    let table : List Record = c.args.table.now in
+    let table : List Record = c.args.self.now.table.now in
     let w = went _ _ _ c.in_ok-main.ensures.answer in
-    let p = programmed table (get_or table 0 no_record).a c.in_ok-main.main no_record c.requires.within.0
-    c.requires.sound refl w.1 in
-    let globals : List ℕ = reverse c.args.globals.now in
-    let functions : List Signature = c.args.functions.now in
+    let p = programmed table (get_or table 0 no_record).a c.in_ok-main.main no_record c.requires.program.within
+    c.requires.program.sound refl w.1 in
+    let globals : List ℕ = reverse c.args.self.now.globals.now in
+    let functions : List Signature = c.args.self.now.functions.now in
     let main : Statement = statement_at table c.in_ok-main.main in
     let empty : contents c.cut.new.self
     ≡ [] = ap (λ (h : ℕ). take h c.cut.new.self.words.now) c.cut.ensures.height in
