@@ -98,8 +98,11 @@ in-order : (d : Declaration) (ds : List Declaration) (names : List ℕ) (functio
     ⨟ global_rules ds (reverse (names ++ map name_of (variables_of (d ∷ []))))
     (functions ++ map signature (functions_of (d ∷ [])))
 in-order (of_a_variable (declare a x v)) ds names functions =
-    rw (last (unless (not (is_some (locate x (reverse names)))) (DeclaredTwice a)), reverse-append names (x ∷ []),
-    append-nil functions) refl
+    rw (
+      last (unless (not (is_some (locate x (reverse names)))) (DeclaredTwice a)),
+      reverse-append names (x ∷ []),
+      append-nil functions,
+    ) refl
 in-order (of_a_function f) ds names functions =
     rw (last (unless (not (is_function f.name functions)) (DeclaredTwice f.place)), append-nil names) refl
 
