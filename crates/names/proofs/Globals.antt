@@ -32,12 +32,13 @@ module _ (ds : List Declaration) (f : Function) (variables : List ℕ) (function
   function-again m p =
       rw (only, ← same) (twice (is_function f.name seen) (DeclaredTwice f.place) (Ok tt) m (sym p))
 
-  pub function-new : (n w b : ℕ) (x : Measured) → false ≡ is_function f.name seen → length f.parameters ≡ n →
-      w ≡ need_statement f.body → x.words ≡ n + w → x.next ≡ b →
-      Ok x ≡ outcome (global_rules ds variables functions) (measured (need_functions (functions_of ds)) b)
-  function-new n w b x fresh count need words next =
+  pub function-new : (n w e b : ℕ) → false ≡ is_function f.name seen → length f.parameters ≡ n →
+      w ≡ need_statement f.body → e ≡ b →
+      Ok (measured (n + w) e)
+      ≡ outcome (global_rules ds variables functions) (measured (need_functions (functions_of ds)) b)
+  function-new n w e b fresh count need next =
       let new : is_function f.name functions ≡ false = ap (is_function f.name) (sym same) ∙ sym fresh in
-      rw (only, new) (ap Ok (measured-is x (need_functions (f ∷ [])) b (omega (arith, words, count, need)) next))
+      rw (only, new, next) (ap (λ (y : ℕ). Ok (measured y b)) (omega arith))
 
   pub function-signed : (n : ℕ) (after : List Signature) →
       after ≡ functions ++ record { name = f.name; count = n; place = f.place } ∷ [] → length f.parameters ≡ n →
@@ -192,7 +193,7 @@ module _ (table : List Record) (found : Measured) (n : ℕ) (k : 0 < n)
   pub globals-done : (x after : Measured) (more : List ℕ) (called : List Signature) →
       Ok x ≡ checked_globals table 1 found.next names functions →
       more ≡ names ++ map name_of (variables_of one) → called ≡ functions ++ map signature (functions_of one) →
-      after.words ≡ max found.words x.words → after.next ≡ x.next →
+      after.words ≡ max x.words found.words → after.next ≡ x.next →
       checked_further table after (n - 1) more called ≡ checked_further table found n names functions
   globals-done x after more called h em ec words next =
       let w = went (global_rules one (reverse names) functions) _ x h in

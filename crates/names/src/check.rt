@@ -29,11 +29,8 @@ impl Context<'_> {
         ensures { result ≡ checked_bodies self.now }
     {
         let mut names: [u16; 1024] = [0; 1024];
-        let mut scope = Stack::new(&mut names, 0);
-        let count = self.table[0].a as usize;
-        let main = self.bodies(count, 1, &mut scope)?;
-        scope.cut(0);
-        self.statement(main, &mut scope)?;
+        let main = self.bodies(self.table[0].a as usize, 1, &mut names)?;
+        self.statement(main, &mut Stack::new(&mut names, 0))?;
         Ok(main)
     }
 }

@@ -1,5 +1,5 @@
 // The frame need: expression and arguments, statement and statements, in two rings.
-ghost use Rattle.std.specs.Prelude.{◌≡◌, ◌+◌, ◌<◌, ◌≤◌, ◌^◌, max};
+ghost use Rattle.std.specs.Prelude.{◌≡◌, ◌+◌, ◌<◌, ◌≤◌, max};
 ghost use Rattle.script.specs.declared.rows.Sort.TheVariants.{Expression, Statement};
 ghost use Rattle.syntax.specs.Trees.{tree_at, pieces, size, sizes, Part};
 ghost use Rattle.syntax.specs.Typed.{expression_at, arguments_at, statement_at, statements_at};
@@ -18,26 +18,14 @@ pub struct Measured {
 }
 
 impl Measured {
-    // A part that runs on top of so many words.
-    pub(crate) fn above(self, below: usize) -> Measured
-        requires { below + self.words < 2 ^ 64 }
-        ensures words { result.words ≡ below + self.words }
+    // The same, where so many words are needed at least.
+    pub(crate) fn at_least(self, words: usize) -> Measured
+        ensures words { result.words ≡ max self.words words }
         ensures next { result.next ≡ self.next }
     {
         Measured {
-            words: below + self.words,
+            words: self.words.max(words),
             next: self.next,
-        }
-    }
-
-    // A part and those after it.
-    pub(crate) fn then(self, rest: Measured) -> Measured
-        ensures words { result.words ≡ max self.words rest.words }
-        ensures next { result.next ≡ rest.next }
-    {
-        Measured {
-            words: self.words.max(rest.words),
-            next: rest.next,
         }
     }
 }
@@ -49,11 +37,7 @@ fn expression(table: &[Record], at: usize) -> Measured
     ensures { Measures table.now at 0 (need_expression (expression_at table.now at))
         (size (tree_at table.now at)) result }
 {
-    let parts = arguments(table, part_count(table[at]), at + 1, 0);
-    Measured {
-        words: parts.words.max(1),
-        next: parts.next,
-    }
+    arguments(table, part_count(table[at]), at + 1, 0).at_least(1)
 }
 
 // `count` expressions from `at` on, with `below` words under the first.
@@ -69,7 +53,7 @@ fn arguments(table: &[Record], count: usize, at: usize, below: usize) -> Measure
     }
     let first = expression(table, at);
     let rest = arguments(table, count - 1, first.next, below + 1);
-    first.above(below).then(rest)
+    rest.at_least(below + first.words)
 }
 
 // The statement at `at`.
@@ -85,15 +69,12 @@ pub fn statement(table: &[Record], at: usize) -> Measured
         NodeKind::Block => {
             let locals = node.a as usize;
             let body = statements(table, count, at + 1 + locals, locals);
-            Measured {
-                words: body.words.max(locals).max(1),
-                next: body.next,
-            }
+            body.at_least(locals).at_least(1)
         }
         _ => {
             let test = expression(table, at + 1);
             let body = statements(table, count, test.next, 0);
-            test.then(body)
+            body.at_least(test.words)
         }
     }
 }
@@ -111,5 +92,5 @@ fn statements(table: &[Record], count: usize, at: usize, below: usize) -> Measur
     }
     let first = statement(table, at);
     let rest = statements(table, count - 1, first.next, below);
-    first.above(below).then(rest)
+    rest.at_least(below + first.words)
 }

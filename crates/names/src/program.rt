@@ -49,7 +49,11 @@ fn declaration(
                 count: parameters,
                 place: at,
             });
-            Ok(measure(table, at + 1 + parameters).above(parameters))
+            let body = measure(table, at + 1 + parameters);
+            Ok(Measured {
+                words: parameters + body.words,
+                next: body.next,
+            })
         }
         _ => {
             if find(globals.live(), node.a).is_some() {
@@ -87,25 +91,25 @@ pub fn declarations(
     let mut found = Measured { words: 0, next: at };
     for _ in 0..count {
         let first = declaration(table, found.next, globals, functions)?;
-        found = found.then(first);
+        found = first.at_least(found.words);
     }
     Ok(found)
 }
 
 impl Context<'_> {
     // Parameters and body of the function that is declared at `at`, if one is: the index after the declaration.
-    fn body(&self, at: usize, scope: &mut Stack<'_, u16>) -> Result<usize, Refusal>
+    // The names in scope lie in `names`.
+    fn body(&self, at: usize, names: &mut [u16]) -> Result<usize, Refusal>
         requires parts { Parts self.now.table.now at 1 Declaration }
-        requires room { length self.now.table.now ≤ capacity scope.old }
-        ensures answer { result ≡ checked_functions self.now 1 at }
-        ensures store { capacity scope.new ≡ capacity scope.old }
+        requires room { length self.now.table.now ≤ length names.old }
+        ensures { result ≡ checked_functions self.now 1 at }
     {
         let node = self.table[at];
         match node_kind(node) {
             NodeKind::Function => {
-                scope.cut(0);
-                let body = self.locals(part_count(node), at + 1, scope)?;
-                self.statement(body, scope)
+                let mut scope = Stack::new(names, 0);
+                let body = self.locals(part_count(node), at + 1, &mut scope)?;
+                self.statement(body, &mut scope)
             }
             _ => Ok(at + 1),
         }
@@ -116,16 +120,15 @@ impl Context<'_> {
         &self,
         count: usize,
         at: usize,
-        scope: &mut Stack<'_, u16>,
+        names: &mut [u16],
     ) -> Result<usize, Refusal>
         requires parts { Parts self.now.table.now at count Declaration }
-        requires room { length self.now.table.now ≤ capacity scope.old }
-        ensures answer { result ≡ checked_functions self.now count at }
-        ensures store { capacity scope.new ≡ capacity scope.old }
+        requires room { length self.now.table.now ≤ length names.old }
+        ensures { result ≡ checked_functions self.now count at }
     {
         let mut next = at;
         for _ in 0..count {
-            next = self.body(next, scope)?;
+            next = self.body(next, names)?;
         }
         Ok(next)
     }

@@ -35,8 +35,8 @@ arguments-returns t c =
           omega arith;
     }
 
-pub expression-arguments-parts-requires : goal.expression-arguments-parts-requires
-expression-arguments-parts-requires t c =
+pub expression-arguments-requires : goal.expression-arguments-requires
+expression-arguments-requires t c =
     let p = expressed c.args.table.now c.args.at _ no_record c.requires.within c.requires.sound
     c.part_count.ensures in
     (omega arith, (record { within = p.within; sound = p.sound }, omega arith))

@@ -29,8 +29,8 @@ overflow_add-at-in-Function c =
     let h : c.args.at + 1 + c.part_count-parameters.result < length c.args.table.now = p.function.within in
     search rules
 
-pub statement-requires : goal.statement-requires
-statement-requires c =
+pub statement-body-requires : goal.statement-body-requires
+statement-body-requires c =
     let p = first_function c.args.table.now c.args.at 1 _ _ _ no_record (lit< tt) c.requires.parts.sound
     (sym c.in-Function.ensures) c.part_count-parameters.ensures refl refl in
     record { within = p.function.within; sound = p.function.body }
@@ -39,8 +39,8 @@ pub returns-else-is_function : goal.returns-else-is_function
 returns-else-is_function c =
     let table : List Record = c.args.table.now in
     let n : ℕ = c.part_count-parameters.result in
-    let p = first_function table c.args.at 1 n (c.args.at + 1 + n) c.statement.result.next no_record (lit< tt)
-    c.requires.parts.sound (sym c.in-Function.ensures) c.part_count-parameters.ensures refl c.statement.ensures.next in
+    let p = first_function table c.args.at 1 n (c.args.at + 1 + n) c.statement-body.result.next no_record (lit< tt)
+    c.requires.parts.sound (sym c.in-Function.ensures) c.part_count-parameters.ensures refl c.statement-body.ensures.next in
     let ds : List Declaration = declarations_at table c.args.at 1 in
     let f : Function = function_at table c.args.at n (c.args.at + 1 + n) (get_or table c.args.at no_record) in
     let names : List ℕ = contents c.args.globals.now in
@@ -48,9 +48,8 @@ returns-else-is_function c =
     let more = contents-pushed c.args.functions.now c.push.new.self _ c.requires.calls c.push.ensures.words
     c.push.ensures.height in
     record {
-      answer = function-new ds f (reverse names) functions _ p.is c.live.ensures n _ _ c.above.result
-          c.if-is_function.ensures p.function.many c.statement.ensures.words c.above.ensures.words
-          (omega (arith, p.whole, c.above.ensures.next));
+      answer = function-new ds f (reverse names) functions _ p.is c.live.ensures n _ _ _
+          c.if-is_function.ensures p.function.many c.statement-body.ensures.words (omega (arith, p.whole));
       variables = no-variable ds f names functions _ p.is c.live.ensures names;
       signatures = function-signed ds f names functions _ p.is c.live.ensures n _ more p.function.many;
       grown = (

@@ -64,14 +64,14 @@ loop-preserved c =
     let names : List ℕ = contents c.loop.globals in
     let functions : List Signature = contents c.loop.functions in
     let w = went _ _ _ d.answer in
-    let m : c.then-found.result.next ≡ c.loop.found.next + sizes (pieces table c.loop.found.next 1) =
-    c.then-found.ensures.next ∙ ap (λ (x : Measured). x.next) w.1 in
-    let p = first table c.loop.found.next left c.then-found.result.next Declaration k i.parts m in
+    let m : c.at_least-found.result.next ≡ c.loop.found.next + sizes (pieces table c.loop.found.next 1) =
+    c.at_least-found.ensures.next ∙ ap (λ (x : Measured). x.next) w.1 in
+    let p = first table c.loop.found.next left c.at_least-found.result.next Declaration k i.parts m in
     let e : left - 1 ≡ c.args.count - (c.loop.counter + 1) = omega arith in
     rw (← e) record {
       parts = p.others;
-      answer = globals-done table c.loop.found left k i.parts names functions c.in_ok-first.first c.then-found.result _ _
-          d.answer d.variables d.signatures c.then-found.ensures.words c.then-found.ensures.next
+      answer = globals-done table c.loop.found left k i.parts names functions c.in_ok-first.first c.at_least-found.result _ _
+          d.answer d.variables d.signatures c.at_least-found.ensures.words c.at_least-found.ensures.next
           ∙ i.answer;
       variables = variables-done table c.loop.found left k i.parts names functions _ m _ d.variables ∙ i.variables;
       signatures = signatures-done table c.loop.found left k i.parts names functions _ m _ d.signatures ∙ i.signatures;

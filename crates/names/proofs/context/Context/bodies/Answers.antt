@@ -9,43 +9,40 @@ use Rattle.names.proofs.context.Context.bodies.Goals as goal
 pub loop-init : goal.loop-init
 loop-init c =
     let e : c.args.count - 0 ≡ c.args.count = omega arith in
-    rw e record { parts = c.requires.parts; answer = refl; store = refl }
+    rw e record { parts = c.requires.parts; answer = refl }
 
 pub body-requires : goal.body-requires
 body-requires c =
     let left : ℕ = c.args.count - c.loop.counter in
     let k : 0 < left = omega arith in
     let p = first c.args.self.now.table.now c.loop.next left _ Declaration k c.loop.invariant.parts refl in
-    record { parts = p.first; room = omega (arith, c.loop.invariant.store) }
+    record { parts = p.first; room = omega arith }
 
 pub returns-in_err-next : goal.returns-in_err-next
 returns-in_err-next c =
     let left : ℕ = c.args.count - c.loop.counter in
     let k : 0 < left = omega arith in
     let q = err_from_is_err_and c.from_residual.result c.from_residual.ensures.1 in
-    rw (q.1, q.2) record {
-      answer = functions-refused c.args.self.now c.loop.next left k c.loop.invariant.parts _ c.in_err-next.ensures.answer
-          ∙ c.loop.invariant.answer;
-      store = c.in_err-next.ensures.store ∙ c.loop.invariant.store;
-    }
+    rw (q.1, q.2)
+    (functions-refused c.args.self.now c.loop.next left k c.loop.invariant.parts _ c.in_err-next.ensures
+    ∙ c.loop.invariant.answer)
 
 pub loop-preserved : goal.loop-preserved
 loop-preserved c =
     let left : ℕ = c.args.count - c.loop.counter in
     let k : 0 < left = omega arith in
-    let w = went _ _ _ c.in_ok-next.ensures.answer in
+    let w = went _ _ _ c.in_ok-next.ensures in
     let p = first c.args.self.now.table.now c.loop.next left c.in_ok-next.next Declaration k c.loop.invariant.parts w.1 in
     let e : left - 1 ≡ c.args.count - (c.loop.counter + 1) = omega arith in
     rw (← e) record {
       parts = p.others;
       answer = functions-done c.args.self.now c.loop.next left k c.loop.invariant.parts c.in_ok-next.next
-          c.in_ok-next.ensures.answer
+          c.in_ok-next.ensures
           ∙ c.loop.invariant.answer;
-      store = c.in_ok-next.ensures.store ∙ c.loop.invariant.store;
     }
 
 pub returns : goal.returns
 returns c =
     let e : c.args.count - c.loop.counter ≡ 0 = omega arith in
     let i = rw e at c.loop.invariant in
-    record { answer = rw add-zero at i.answer; store = i.store }
+    rw add-zero at i.answer

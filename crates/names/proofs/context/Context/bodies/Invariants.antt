@@ -1,5 +1,4 @@
 use Rattle.std.proofs.Common.{◌≡◌, ◌-◌}
-use Rattle.stack.specs.Store.{capacity}
 use Rattle.script.specs.declared.rows.Sort.TheVariants.{Declaration}
 use Rattle.names.specs.Parts.{Parts}
 use Rattle.names.specs.Passes.{checked_functions}
@@ -12,5 +11,4 @@ invariant-loop l =
     record {
       parts : Parts l.self.table.now l.next left Declaration;
       answer : checked_functions l.self left l.next ≡ checked_functions l.self l.count l.at;
-      store : capacity l.scope ≡ capacity l.initial.scope;
     }

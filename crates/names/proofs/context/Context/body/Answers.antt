@@ -23,15 +23,15 @@ locals-requires c =
     let n : ℕ = c.part_count.result in
     let p = first_function table c.args.at 1 n (c.args.at + 1 + n) _ no_record (lit< tt) c.requires.parts.sound
     (sym c.in-Function.ensures) c.part_count.ensures refl refl in
-    let s : capacity c.cut.new.self ≡ capacity c.args.scope.now = ap length c.cut.ensures.words in
+    let s : capacity c.new-scope.result ≡ length c.args.names.now = ap length c.new-scope.ensures.words in
     record {
       within = omega (arith, p.function.within);
       sound = p.function.parameters;
       room = omega (arith, p.function.within);
     }
 
-pub returns-in_err-body-in-Function-clause-answer : goal.returns-in_err-body-in-Function-clause-answer
-returns-in_err-body-in-Function-clause-answer c =
+pub returns-in_err-body-in-Function : goal.returns-in_err-body-in-Function
+returns-in_err-body-in-Function c =
     let table : List Record = c.args.self.now.table.now in
     let n : ℕ = c.part_count.result in
     let p = first_function table c.args.at 1 n (c.args.at + 1 + n) _ no_record (lit< tt) c.requires.parts.sound
@@ -40,10 +40,9 @@ returns-in_err-body-in-Function-clause-answer c =
     let functions : List Signature = c.args.self.now.functions.now in
     let ds : List Declaration = declarations_at table c.args.at 1 in
     let xs : List VariableDeclaration = variables_at table (c.args.at + 1) n in
-    let empty : contents c.cut.new.self
-    ≡ [] = ap (λ (h : ℕ). take h c.cut.new.self.words.now) c.cut.ensures.height in
-    let a = local_rules globals xs (reverse (contents c.cut.new.self)) in
-    let same = parameters-as-locals globals table c.args.at n (contents c.cut.new.self)
+    let empty : contents c.new-scope.result ≡ [] = ap (λ (h : ℕ). take h c.new-scope.result.words.now) c.new-scope.ensures.height in
+    let a = local_rules globals xs (reverse (contents c.new-scope.result)) in
+    let same = parameters-as-locals globals table c.args.at n (contents c.new-scope.result)
     p.function.parameters empty in
     let f : Function = function_at table c.args.at n (c.args.at + 1 + n) (get_or table c.args.at no_record) in
     let q = err_from_is_err_and c.from_residual.result c.from_residual.ensures.1 in
@@ -57,14 +56,14 @@ statement-requires c =
     let w = went _ _ _ c.in_ok-body-in-Function.ensures.answer in
     let p = first_function table c.args.at 1 n c.in_ok-body-in-Function.body _ no_record (lit< tt)
     c.requires.parts.sound (sym c.in-Function.ensures) c.part_count.ensures w.1 refl in
-    let s : capacity c.cut.new.self ≡ capacity c.args.scope.now = ap length c.cut.ensures.words in
+    let s : capacity c.new-scope.result ≡ length c.args.names.now = ap length c.new-scope.ensures.words in
     record {
       part = record { within = p.function.within; sound = p.function.body };
       room = omega (arith, w.1, c.in_ok-body-in-Function.ensures.height, c.in_ok-body-in-Function.ensures.store);
     }
 
-pub returns-in_ok-body-in-Function-clause-answer : goal.returns-in_ok-body-in-Function-clause-answer
-returns-in_ok-body-in-Function-clause-answer c =
+pub returns-in_ok-body-in-Function : goal.returns-in_ok-body-in-Function
+returns-in_ok-body-in-Function c =
     let table : List Record = c.args.self.now.table.now in
     let n : ℕ = c.part_count.result in
     let w = went _ _ _ c.in_ok-body-in-Function.ensures.answer in
@@ -75,10 +74,9 @@ returns-in_ok-body-in-Function-clause-answer c =
     let functions : List Signature = c.args.self.now.functions.now in
     let ds : List Declaration = declarations_at table c.args.at 1 in
     let xs : List VariableDeclaration = variables_at table (c.args.at + 1) n in
-    let empty : contents c.cut.new.self
-    ≡ [] = ap (λ (h : ℕ). take h c.cut.new.self.words.now) c.cut.ensures.height in
-    let a = local_rules globals xs (reverse (contents c.cut.new.self)) in
-    let same = parameters-as-locals globals table c.args.at n (contents c.cut.new.self)
+    let empty : contents c.new-scope.result ≡ [] = ap (λ (h : ℕ). take h c.new-scope.result.words.now) c.new-scope.ensures.height in
+    let a = local_rules globals xs (reverse (contents c.new-scope.result)) in
+    let same = parameters-as-locals globals table c.args.at n (contents c.new-scope.result)
     p.function.parameters empty in
     let f : Function = function_at table c.args.at n body (get_or table c.args.at no_record) in
     let own : List ℕ = reverse (contents c.locals.new.scope) in
@@ -87,8 +85,8 @@ returns-in_ok-body-in-Function-clause-answer c =
     body-answered globals functions ds f p.is a same own _ _ _ bound w.0 (omega (arith, p.whole))
     c.statement.ensures.answer
 
-pub returns-in_default-clause-answer : goal.returns-in_default-clause-answer
-returns-in_default-clause-answer c =
+pub returns-in_default : goal.returns-in_default
+returns-in_default c =
     let table : List Record = c.args.self.now.table.now in
     let p = first-variable table c.args.at 1 no_record (lit< tt) c.requires.parts.sound
     (λ e. c.in_default.not-Function (c.node_kind.ensures ∙ e)) in

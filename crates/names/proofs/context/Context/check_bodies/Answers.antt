@@ -15,8 +15,8 @@ use Rattle.names.proofs.context.Context.check_bodies.Goals as goal
 pub bodies-requires : goal.bodies-requires
 bodies-requires c =
     let table : List Record = c.args.self.now.table.now in
-    let p = programmed table (get_or table 0 no_record).a _ no_record c.requires.program.within c.requires.program.sound refl refl in
-    let store : capacity c.new-scope.result ≡ 1024 = ap length c.new-scope.ensures.words in
+    let p = programmed table (get_or table 0 no_record).a _ no_record c.requires.program.within c.requires.program.sound
+    refl refl in
     record {
       parts = record { within = omega (arith, c.requires.program.within); sound = p.declared };
       room = omega arith;
@@ -25,36 +25,30 @@ bodies-requires c =
 pub returns-in_err-main : goal.returns-in_err-main
 returns-in_err-main c =
     let table : List Record = c.args.self.now.table.now in
-    let p = programmed table (get_or table 0 no_record).a _ no_record c.requires.program.within c.requires.program.sound refl refl in
+    let p = programmed table (get_or table 0 no_record).a _ no_record c.requires.program.within c.requires.program.sound
+    refl refl in
     let q = err_from_is_err_and c.from_residual.result c.from_residual.ensures.1 in
-    rw (q.1, q.2, p.is) (refused _ _ _ _ _ c.in_err-main.ensures.answer)
+    rw (q.1, q.2, p.is) (refused _ _ _ _ _ c.in_err-main.ensures)
 
 pub statement-requires : goal.statement-requires
 statement-requires c =
     let table : List Record = c.args.self.now.table.now in
-    let w = went _ _ _ c.in_ok-main.ensures.answer in
+    let w = went _ _ _ c.in_ok-main.ensures in
     let p = programmed table (get_or table 0 no_record).a c.in_ok-main.main no_record c.requires.program.within
     c.requires.program.sound refl w.1 in
-    let store : capacity c.new-scope.result ≡ 1024 = ap length c.new-scope.ensures.words in
-    let cut : capacity c.cut.new.self
-    ≡ capacity c.bodies.new.scope = ap length c.cut.ensures.words in
-    let low : c.cut.new.self.height ≡ 0 = c.cut.ensures.height in
-    record {
-      part = record { within = p.within; sound = p.body };
-      room = omega (arith, c.in_ok-main.ensures.store);
-    }
+    let store : capacity c.new.result ≡ length c.bodies.new.names = ap length c.new.ensures.words in
+    record { part = record { within = p.within; sound = p.body }; room = omega arith }
 
 pub returns-in_err-statement : goal.returns-in_err-statement
 returns-in_err-statement c =
     let table : List Record = c.args.self.now.table.now in
-    let w = went _ _ _ c.in_ok-main.ensures.answer in
+    let w = went _ _ _ c.in_ok-main.ensures in
     let p = programmed table (get_or table 0 no_record).a c.in_ok-main.main no_record c.requires.program.within
     c.requires.program.sound refl w.1 in
     let globals : List ℕ = reverse c.args.self.now.globals.now in
     let functions : List Signature = c.args.self.now.functions.now in
     let main : Statement = statement_at table c.in_ok-main.main in
-    let empty : contents c.cut.new.self
-    ≡ [] = ap (λ (h : ℕ). take h c.cut.new.self.words.now) c.cut.ensures.height in
+    let empty : contents c.new.result ≡ [] = ap (λ (h : ℕ). take h c.new.result.words.now) c.new.ensures.height in
     let q = err_from_is_err_and c.from_residual-in_err-statement.result
     c.from_residual-in_err-statement.ensures.1 in
     rw (q.1, q.2, p.is)
@@ -64,14 +58,12 @@ returns-in_err-statement c =
 pub returns : goal.returns
 returns c =
     let table : List Record = c.args.self.now.table.now in
-    let w = went _ _ _ c.in_ok-main.ensures.answer in
+    let w = went _ _ _ c.in_ok-main.ensures in
     let p = programmed table (get_or table 0 no_record).a c.in_ok-main.main no_record c.requires.program.within
     c.requires.program.sound refl w.1 in
     let globals : List ℕ = reverse c.args.self.now.globals.now in
     let functions : List Signature = c.args.self.now.functions.now in
     let main : Statement = statement_at table c.in_ok-main.main in
-    let empty : contents c.cut.new.self
-    ≡ [] = ap (λ (h : ℕ). take h c.cut.new.self.words.now) c.cut.ensures.height in
-    let u = went _ _ _ (empty-scope globals functions main _ _ _ empty
-    c.in_ok-statement.ensures.answer) in
+    let empty : contents c.new.result ≡ [] = ap (λ (h : ℕ). take h c.new.result.words.now) c.new.ensures.height in
+    let u = went _ _ _ (empty-scope globals functions main _ _ _ empty c.in_ok-statement.ensures.answer) in
     rw p.is (both-fine _ (statement_rules globals functions main []) _ _ w.0 u.0 w.1)
