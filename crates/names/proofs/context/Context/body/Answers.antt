@@ -1,4 +1,4 @@
-use Rattle.std.proofs.Common.{◌≡◌, ℕ, ◌+◌, List, [], ◌++◌, map, reverse, length, get_or, take, sym, refl, ap, ◌∙◌, arith, lit<}
+use Rattle.std.proofs.Common.{◌≡◌, ℕ, ◌+◌, List, ◌++◌, map, reverse, length, get_or, sym, refl, ap, ◌∙◌, arith, lit<}
 use Rattle.std.proofs.lemmas.Result.{err_from_is_err_and}
 use Rattle.stack.specs.Store.{contents, capacity}
 use Rattle.script.specs.declared.record.Record.{Record}
@@ -9,6 +9,7 @@ use Rattle.syntax.proofs.Expressions.{firsts}
 use Rattle.syntax.proofs.Declarations.{first_function, first-variable, function_at}
 use Rattle.names.specs.declared.signature.Signature.{Signature}
 use Rattle.names.specs.Names.{local_rules}
+use Rattle.names.proofs.Growth.{empty}
 use Rattle.names.proofs.Outcomes.{went}
 use Rattle.names.proofs.Functions.{parameters-as-locals, parameters-refused, body-answered, variable-answered}
 use Rattle.names.proofs.context.Context.body.Goals as goal
@@ -40,10 +41,10 @@ returns-in_err-body-in-Function c =
     let functions : List Signature = c.args.self.now.functions.now in
     let ds : List Declaration = declarations_at table c.args.at 1 in
     let xs : List VariableDeclaration = variables_at table (c.args.at + 1) n in
-    let empty : contents c.new-scope.result ≡ [] = ap (λ (h : ℕ). take h c.new-scope.result.words.now) c.new-scope.ensures.height in
+    let none = empty c.new-scope.result c.new-scope.ensures.height in
     let a = local_rules globals xs (reverse (contents c.new-scope.result)) in
     let same = parameters-as-locals globals table c.args.at n (contents c.new-scope.result)
-    p.function.parameters empty in
+    p.function.parameters none in
     let f : Function = function_at table c.args.at n (c.args.at + 1 + n) (get_or table c.args.at no_record) in
     let q = err_from_is_err_and c.from_residual.result c.from_residual.ensures.1 in
     rw (q.1, q.2)
@@ -74,14 +75,14 @@ returns-in_ok-body-in-Function c =
     let functions : List Signature = c.args.self.now.functions.now in
     let ds : List Declaration = declarations_at table c.args.at 1 in
     let xs : List VariableDeclaration = variables_at table (c.args.at + 1) n in
-    let empty : contents c.new-scope.result ≡ [] = ap (λ (h : ℕ). take h c.new-scope.result.words.now) c.new-scope.ensures.height in
+    let none = empty c.new-scope.result c.new-scope.ensures.height in
     let a = local_rules globals xs (reverse (contents c.new-scope.result)) in
     let same = parameters-as-locals globals table c.args.at n (contents c.new-scope.result)
-    p.function.parameters empty in
+    p.function.parameters none in
     let f : Function = function_at table c.args.at n body (get_or table c.args.at no_record) in
     let own : List ℕ = reverse (contents c.locals.new.scope) in
     let bound : own ≡ reverse (map name_of xs) =
-    ap reverse (c.in_ok-body-in-Function.ensures.bound ∙ ap (λ (l : List ℕ). l ++ map name_of xs) empty) in
+    ap reverse (c.in_ok-body-in-Function.ensures.bound ∙ ap (λ (l : List ℕ). l ++ map name_of xs) none) in
     body-answered globals functions ds f p.is a same own _ _ _ bound w.0 (omega (arith, p.whole))
     c.statement.ensures.answer
 

@@ -1,6 +1,6 @@
-use Rattle.std.proofs.Common.{◌≡◌, ℕ, List, [], reverse, length, get_or, take, refl, ap, arith}
+use Rattle.std.proofs.Common.{◌≡◌, ℕ, List, [], reverse, length, get_or, refl, ap, arith}
 use Rattle.std.proofs.lemmas.Result.{err_from_is_err_and}
-use Rattle.stack.specs.Store.{contents, capacity}
+use Rattle.stack.specs.Store.{capacity}
 use Rattle.script.specs.declared.record.Record.{Record}
 use Rattle.syntax.specs.Syntax.{Statement}
 use Rattle.syntax.specs.Trees.{no_record}
@@ -8,6 +8,7 @@ use Rattle.syntax.specs.Typed.{statement_at}
 use Rattle.syntax.proofs.Declarations.{programmed}
 use Rattle.names.specs.declared.signature.Signature.{Signature}
 use Rattle.names.specs.Names.{statement_rules}
+use Rattle.names.proofs.Growth.{empty}
 use Rattle.names.proofs.Outcomes.{refused, refused-after, went, both-fine}
 use Rattle.names.proofs.Scopes.{empty-scope}
 use Rattle.names.proofs.context.Context.check_bodies.Goals as goal
@@ -48,12 +49,12 @@ returns-in_err-statement c =
     let globals : List ℕ = reverse c.args.self.now.globals.now in
     let functions : List Signature = c.args.self.now.functions.now in
     let main : Statement = statement_at table c.in_ok-main.main in
-    let empty : contents c.new.result ≡ [] = ap (λ (h : ℕ). take h c.new.result.words.now) c.new.ensures.height in
+    let none = empty c.new.result c.new.ensures.height in
     let q = err_from_is_err_and c.from_residual-in_err-statement.result
     c.from_residual-in_err-statement.ensures.1 in
     rw (q.1, q.2, p.is)
     (refused-after _ (statement_rules globals functions main []) _ _ _ w.0
-    (empty-scope globals functions main _ _ _ empty c.in_err-statement.ensures.answer))
+    (empty-scope globals functions main _ _ _ none c.in_err-statement.ensures.answer))
 
 pub returns : goal.returns
 returns c =
@@ -64,6 +65,6 @@ returns c =
     let globals : List ℕ = reverse c.args.self.now.globals.now in
     let functions : List Signature = c.args.self.now.functions.now in
     let main : Statement = statement_at table c.in_ok-main.main in
-    let empty : contents c.new.result ≡ [] = ap (λ (h : ℕ). take h c.new.result.words.now) c.new.ensures.height in
-    let u = went _ _ _ (empty-scope globals functions main _ _ _ empty c.in_ok-statement.ensures.answer) in
+    let none = empty c.new.result c.new.ensures.height in
+    let u = went _ _ _ (empty-scope globals functions main _ _ _ none c.in_ok-statement.ensures.answer) in
     rw p.is (both-fine _ (statement_rules globals functions main []) _ _ w.0 u.0 w.1)
