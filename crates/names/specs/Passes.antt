@@ -29,20 +29,7 @@ abbrev pub record_rule : List ℕ → List Signature → List ℕ → NodeKind �
 record_rule globals functions own is.Variable r at = unless (declared globals r.a own) (Undeclared at)
 record_rule globals functions own is.Assignment r at = unless (declared globals r.a own) (Undeclared at)
 record_rule globals functions own is.Call r at = call_rule r.a functions (first_parts r) at
-record_rule globals functions own is.Number r at = Ok tt
-record_rule globals functions own (is.TwoPart o) r at = Ok tt
-record_rule globals functions own is.BayRead r at = Ok tt
-record_rule globals functions own is.BayWrite r at = Ok tt
-record_rule globals functions own is.ExpressionStatement r at = Ok tt
-record_rule globals functions own is.If r at = Ok tt
-record_rule globals functions own is.While r at = Ok tt
-record_rule globals functions own is.Return r at = Ok tt
-record_rule globals functions own is.Block r at = Ok tt
-record_rule globals functions own is.VariableDeclaration r at = Ok tt
-record_rule globals functions own is.Function r at = Ok tt
-record_rule globals functions own is.Parameter r at = Ok tt
-record_rule globals functions own is.Program r at = Ok tt
-record_rule globals functions own is.Unknown r at = Ok tt
+record_rule globals functions own _ r at = Ok tt
 
 -- Under what a program declares: is a name one of the scope's or of the globals'.
 module _ (c : Context) where

@@ -100,11 +100,7 @@ pub fn check_table(table: &[Record]) -> Result<Summary, Refusal>
 {
     check_sound(table)?;
     let mut names: [u16; 128] = [0; 128];
-    let mut signatures = [Signature {
-        name: 0,
-        count: 0,
-        place: 0,
-    }; 128];
+    let mut signatures = [Signature::default(); 128];
     let mut globals = Stack::new(&mut names, 0);
     let mut functions = Stack::new(&mut signatures, 0);
     check_names(table, &mut globals, &mut functions)

@@ -1,4 +1,4 @@
-// The name rules of an expression and of an argument list, in a ring.
+// The name rules of an expression and of an argument list, in a ring: the project's rules want the checker as rings.
 ghost use Rattle.std.specs.Prelude.{◌≡◌, reverse};
 ghost use Rattle.script.specs.declared.rows.Sort.TheVariants.{Expression};
 ghost use Rattle.script.specs.Rows.{node_of};

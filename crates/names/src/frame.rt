@@ -1,4 +1,5 @@
-// The frame need: expression and arguments, statement and statements, in two rings.
+// The frame need: expression and arguments, statement and statements, in two rings: the project's rules want the
+// checker as rings, and so its two lists of parts stay two functions.
 ghost use Rattle.std.specs.Prelude.{◌≡◌, ◌+◌, ◌<◌, ◌≤◌, max};
 ghost use Rattle.script.specs.declared.rows.Sort.TheVariants.{Expression, Statement};
 ghost use Rattle.syntax.specs.Trees.{tree_at, pieces, size, sizes, Part};

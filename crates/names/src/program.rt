@@ -19,7 +19,7 @@ use stack::Stack;
 use syntax::parts::{node_kind, part_count};
 
 // The global declaration at `at`: its name or its signature goes onto a stack.
-// The two stacks stay parameters: a struct of them would be made and taken apart again in `check_names`, which lends both.
+// The stacks stay two parameters: a struct of both would be made in `check_names` and taken apart there again.
 fn declaration(
     table: &[Record],
     at: usize,

@@ -1,4 +1,5 @@
-// The name rules of a statement and of several statements, in a ring; the names in scope lie on a stack, newest on top.
+// The name rules of a statement and of several statements, in a ring: the project's rules want the checker as rings.
+// The names in scope lie on a stack, newest on top.
 ghost use Rattle.std.specs.Prelude.{◌≡◌, ◌+◌, ◌≤◌, ◌++◌, map, length, IfOk, OnOk};
 ghost use Rattle.stack.specs.Store.{contents, capacity};
 ghost use Rattle.script.specs.declared.rows.Sort.TheVariants.{Statement};
