@@ -3,6 +3,7 @@ pub mod Several
 pub mod Outcomes
 pub mod Rules
 pub mod Scopes
+pub mod Blocks
 pub mod Growth
 pub mod Globals
 pub mod Functions
