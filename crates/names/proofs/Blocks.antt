@@ -1,9 +1,9 @@
 -- A block, a statement that is none, and several statements: what their parts are answered is what they are.
-use Rattle.std.proofs.Common.{◌≡◌, ℕ, ◌+◌, ◌-◌, List, ◌++◌, map, reverse, Ok, Err, Result, sym, ap, ◌∙◌, arith}
+use Rattle.std.proofs.Common.{◌≡◌, ℕ, ◌+◌, ◌-◌, List, ◌++◌, map, reverse, Ok, Err, Result, arith}
 use Rattle.script.specs.declared.record.Record.{Record}
 use Rattle.script.specs.declared.refusal.Refusal.{Refusal}
 use Rattle.script.specs.declared.rows.Sort.TheVariants.{Statement as StatementSort}
-use Rattle.syntax.specs.Syntax.{VariableDeclaration, Expression, Statement, Statements, name_of, bind_names}
+use Rattle.syntax.specs.Syntax.{VariableDeclaration, Expression, Statements, name_of, bind_names}
 use Rattle.syntax.specs.Trees.{pieces, sizes}
 use Rattle.syntax.specs.Typed.{expression_at, statement_at, statements_at, variables_at}
 use Rattle.syntax.proofs.Expressions.{Firsts}

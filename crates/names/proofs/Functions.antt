@@ -1,20 +1,21 @@
 -- The rules of the functions' parameters and bodies, one function after another.
-use Rattle.std.proofs.Common.{◌≡◌, ℕ, zero, suc, ◌+◌, ◌-◌, ◌<◌, not, List, [], ◌∷◌, map, reverse, get_or, Ok, Err, Result, sym, refl, ap, ◌∙◌, add-one, arith}
+use Rattle.std.proofs.Common.{◌≡◌, ℕ, zero, suc, ◌+◌, ◌-◌, ◌<◌, not, List, [], ◌∷◌, ◌++◌, map, reverse, get_or, Ok, Err, Result, sym, refl, ap, ◌∙◌, add-one, arith}
 use Rattle.script.specs.declared.rows.Sort.TheVariants.{Declaration as DeclarationSort}
 use Rattle.script.specs.declared.record.Record.{Record}
 use Rattle.script.specs.declared.refusal.Refusal.{Refusal}
 use Rattle.script.specs.declared.refusal.Refusal.TheVariants.{DeclaredTwice}
-use Rattle.syntax.specs.Syntax.{VariableDeclaration, declare, Declaration, of_a_variable, of_a_function, Function, name_of}
+use Rattle.syntax.specs.Syntax.{VariableDeclaration, declare, Declaration, of_a_variable, of_a_function, name_of}
 use Rattle.syntax.specs.Syntax.{functions_of}
-use Rattle.syntax.specs.Trees.{Tree, tree_at, pieces, sizes, Leaves, no_record}
-use Rattle.syntax.specs.Typed.{variables_at, declarations_at, make_declaration, node_kind}
+use Rattle.syntax.specs.Trees.{Tree, tree_at, pieces, size, sizes, Leaves, no_record}
+use Rattle.syntax.specs.Typed.{variables_at, statement_at, declarations_at, make_declaration, node_kind}
 use Rattle.names.specs.Parts.{Parts}
 use Rattle.names.specs.declared.context.Context.{Context}
 use Rattle.syntax.proofs.Statements.{declared-first}
+use Rattle.syntax.proofs.Declarations.{FirstFunction}
 use Rattle.names.specs.declared.signature.Signature.{Signature}
 use Rattle.names.specs.Names.{Answer, ◌⨟◌, unless, declared, local_rules, parameter_rules, statement_rules}
 use Rattle.names.specs.Names.{function_rules}
-use Rattle.names.specs.Passes.{outcome, checked_functions}
+use Rattle.names.specs.Passes.{outcome, checked_locals, checked_statement, checked_functions}
 use Rattle.names.proofs.Outcomes.{last, refused, regroup, went}
 use Rattle.names.proofs.Several.{first}
 
@@ -45,21 +46,33 @@ parameters-as-locals globals table at n scope s e =
     ∙ (as-locals globals table (at + 1) n [] s
     ∙ ap (λ (l : List ℕ). local_rules globals (variables_at table (at + 1) n) (reverse l)) (sym e))
 
--- A function alone; `a` is the answer for its parameters.
-module _ (globals : List ℕ) (functions : List Signature) (ds : List Declaration) (f : Function)
-    (only : ds ≡ of_a_function f ∷ [])
-    (a : Answer) (same : parameter_rules globals f.parameters (suc f.place) [] ≡ a) where
-  pub parameters-refused : (n m : ℕ) (y : Refusal) → Err y ≡ outcome a n → Err y
-      ≡ outcome (function_rules globals functions (functions_of ds)) m
-  parameters-refused n m y h =
-      rw (only, same)
-      (refused a (statement_rules globals functions f.body (reverse f.parameters) ⨟ Ok tt) n m y h)
+-- A function alone, whose parameters are declared on an empty scope.
+module _ (c : Context) (at n m e : ℕ) (r : Record) (p : FirstFunction c.table.now at 1 n m e r) (scope : List ℕ)
+    (none : scope ≡ []) where
+  abbrev xs : List VariableDeclaration
+  xs = variables_at c.table.now (at + 1) n
 
-  pub body-answered : (own : List ℕ) (n m : ℕ) (r : Result ℕ Refusal) → own ≡ reverse f.parameters → a ≡ Ok tt → n ≡ m →
-      r ≡ outcome (statement_rules globals functions f.body own) n → r
-      ≡ outcome (function_rules globals functions (functions_of ds)) m
-  body-answered own n m r bound ok e h =
-      rw (only, same, ok, last (statement_rules globals functions f.body (reverse f.parameters))) (rw (bound, e) at h)
+  abbrev parameters : Answer
+  parameters = local_rules (reverse c.globals.now) xs (reverse scope)
+
+  abbrev body : Answer
+  body = statement_rules (reverse c.globals.now) c.functions.now (statement_at c.table.now m) (reverse (map name_of xs))
+
+  same : parameter_rules (reverse c.globals.now) (map name_of xs) (suc at) [] ≡ parameters
+  same = parameters-as-locals (reverse c.globals.now) c.table.now at n scope p.function.parameters none
+
+  pub parameters-refused : (y : Refusal) → Err y ≡ checked_locals c n (at + 1) scope → Err y ≡ checked_functions c 1 at
+  parameters-refused y h = rw (p.is, same) (refused parameters (body ⨟ Ok tt) _ _ y h)
+
+  pub function-answered : (inner : List ℕ) (out : Result ℕ Refusal) → e ≡ m + size (tree_at c.table.now m) →
+      Ok m ≡ checked_locals c n (at + 1) scope → inner ≡ scope ++ map name_of xs → out ≡ checked_statement c m inner →
+      out ≡ checked_functions c 1 at
+  function-answered inner out ends h names q =
+      let w = went parameters _ m h in
+      let none' : inner ≡ map name_of xs = rw none at names in
+      let bound : reverse inner ≡ reverse (map name_of xs) = ap reverse none' in
+      let end : m + size (tree_at c.table.now m) ≡ at + sizes (pieces c.table.now at 1) = omega (arith, p.whole, ends) in
+      rw (p.is, same, w.0, last body) (rw (bound, end) at q)
 
 -- A variable alone.
 pub variable-answered : (globals : List ℕ) (functions : List Signature) (ds : List Declaration) (d : VariableDeclaration)

@@ -1,29 +1,41 @@
-use Rattle.std.proofs.Common.{◌≡◌, ℕ, ◌+◌, List, ◌++◌, map, reverse, length, get_or, sym, refl, ap, ◌∙◌, arith, lit<}
+use Rattle.std.proofs.Common.{◌≡◌, ◌+◌, reverse, length, get_or, sym, refl, ap, ◌∙◌, arith, lit<}
 use Rattle.std.proofs.lemmas.Result.{err_from_is_err_and}
-use Rattle.stack.specs.Store.{contents, capacity}
-use Rattle.script.specs.declared.record.Record.{Record}
-use Rattle.syntax.specs.Syntax.{VariableDeclaration, Declaration, Function, name_of}
+use Rattle.stack.specs.Store.{capacity}
 use Rattle.syntax.specs.Trees.{tree_at, size, no_record}
-use Rattle.syntax.specs.Typed.{variables_at, declarations_at}
+use Rattle.syntax.specs.Typed.{declarations_at}
 use Rattle.syntax.proofs.Expressions.{firsts}
-use Rattle.syntax.proofs.Declarations.{first_function, first-variable, function_at}
-use Rattle.names.specs.declared.signature.Signature.{Signature}
-use Rattle.names.specs.Names.{local_rules}
+use Rattle.syntax.proofs.Declarations.{FirstFunction, first_function, first-variable}
 use Rattle.names.proofs.Growth.{empty}
 use Rattle.names.proofs.Outcomes.{went}
-use Rattle.names.proofs.Functions.{parameters-as-locals, parameters-refused, body-answered, variable-answered}
+use Rattle.names.proofs.Functions.{parameters-refused, function-answered, variable-answered}
 use Rattle.names.proofs.context.Context.body.Goals as goal
+use Rattle.names.proofs.context.Context.body.Goals.{After-part_count, In_ok-body-in-Function}
 
 pub bounds-self-at : goal.bounds-self-at
 bounds-self-at c =
     (firsts c.args.self.now.table.now c.args.at 1 _ _ (lit< tt) c.requires.parts.sound refl).within
 
+-- A function, and a function past its parameters.
+function : (c : After-part_count) →
+    let m = c.args.at + 1 + c.part_count.result in
+    FirstFunction c.args.self.now.table.now c.args.at 1 c.part_count.result m (m + size (tree_at c.args.self.now.table.now m))
+    (get_or c.args.self.now.table.now c.args.at no_record)
+function c =
+    first_function c.args.self.now.table.now c.args.at 1 c.part_count.result _ _ no_record (lit< tt) c.requires.parts.sound
+    (sym c.in-Function.ensures) c.part_count.ensures refl refl
+
+function-past : (c : In_ok-body-in-Function) →
+    let m = c.in_ok-body-in-Function.body in
+    FirstFunction c.args.self.now.table.now c.args.at 1 c.part_count.result m (m + size (tree_at c.args.self.now.table.now m))
+    (get_or c.args.self.now.table.now c.args.at no_record)
+function-past c =
+    let w = went _ _ _ c.in_ok-body-in-Function.ensures.answer in
+    first_function c.args.self.now.table.now c.args.at 1 c.part_count.result _ _ no_record (lit< tt) c.requires.parts.sound
+    (sym c.in-Function.ensures) c.part_count.ensures w.1 refl
+
 pub locals-requires : goal.locals-requires
 locals-requires c =
-    let table : List Record = c.args.self.now.table.now in
-    let n : ℕ = c.part_count.result in
-    let p = first_function table c.args.at 1 n (c.args.at + 1 + n) _ no_record (lit< tt) c.requires.parts.sound
-    (sym c.in-Function.ensures) c.part_count.ensures refl refl in
+    let p = function (goal.at.locals-requires c).After-part_count in
     let s : capacity c.new-scope.result ≡ length c.args.names.now = ap length c.new-scope.ensures.words in
     record {
       within = omega (arith, p.function.within);
@@ -33,30 +45,16 @@ locals-requires c =
 
 pub returns-in_err-body-in-Function : goal.returns-in_err-body-in-Function
 returns-in_err-body-in-Function c =
-    let table : List Record = c.args.self.now.table.now in
-    let n : ℕ = c.part_count.result in
-    let p = first_function table c.args.at 1 n (c.args.at + 1 + n) _ no_record (lit< tt) c.requires.parts.sound
-    (sym c.in-Function.ensures) c.part_count.ensures refl refl in
-    let globals : List ℕ = reverse c.args.self.now.globals.now in
-    let functions : List Signature = c.args.self.now.functions.now in
-    let ds : List Declaration = declarations_at table c.args.at 1 in
-    let xs : List VariableDeclaration = variables_at table (c.args.at + 1) n in
-    let none = empty c.new-scope.result c.new-scope.ensures.height in
-    let a = local_rules globals xs (reverse (contents c.new-scope.result)) in
-    let same = parameters-as-locals globals table c.args.at n (contents c.new-scope.result)
-    p.function.parameters none in
-    let f : Function = function_at table c.args.at n (c.args.at + 1 + n) (get_or table c.args.at no_record) in
+    let p = function (goal.at.returns-in_err-body-in-Function c).After-part_count in
     let q = err_from_is_err_and c.from_residual.result c.from_residual.ensures.1 in
     rw (q.1, q.2)
-    (parameters-refused globals functions ds f p.is a same _ _ _ c.in_err-body-in-Function.ensures.answer)
+    (parameters-refused c.args.self.now c.args.at _ _ _ _ p _ (empty c.new-scope.result c.new-scope.ensures.height) _
+    c.in_err-body-in-Function.ensures.answer)
 
 pub statement-requires : goal.statement-requires
 statement-requires c =
-    let table : List Record = c.args.self.now.table.now in
-    let n : ℕ = c.part_count.result in
     let w = went _ _ _ c.in_ok-body-in-Function.ensures.answer in
-    let p = first_function table c.args.at 1 n c.in_ok-body-in-Function.body _ no_record (lit< tt)
-    c.requires.parts.sound (sym c.in-Function.ensures) c.part_count.ensures w.1 refl in
+    let p = function-past (goal.at.statement-requires c).In_ok-body-in-Function in
     let s : capacity c.new-scope.result ≡ length c.args.names.now = ap length c.new-scope.ensures.words in
     record {
       part = record { within = p.function.within; sound = p.function.body };
@@ -65,30 +63,13 @@ statement-requires c =
 
 pub returns-in_ok-body-in-Function : goal.returns-in_ok-body-in-Function
 returns-in_ok-body-in-Function c =
-    let table : List Record = c.args.self.now.table.now in
-    let n : ℕ = c.part_count.result in
-    let w = went _ _ _ c.in_ok-body-in-Function.ensures.answer in
-    let body : ℕ = c.in_ok-body-in-Function.body in
-    let p = first_function table c.args.at 1 n body (body + size (tree_at table body)) no_record (lit< tt)
-    c.requires.parts.sound (sym c.in-Function.ensures) c.part_count.ensures w.1 refl in
-    let globals : List ℕ = reverse c.args.self.now.globals.now in
-    let functions : List Signature = c.args.self.now.functions.now in
-    let ds : List Declaration = declarations_at table c.args.at 1 in
-    let xs : List VariableDeclaration = variables_at table (c.args.at + 1) n in
-    let none = empty c.new-scope.result c.new-scope.ensures.height in
-    let a = local_rules globals xs (reverse (contents c.new-scope.result)) in
-    let same = parameters-as-locals globals table c.args.at n (contents c.new-scope.result)
-    p.function.parameters none in
-    let f : Function = function_at table c.args.at n body (get_or table c.args.at no_record) in
-    let own : List ℕ = reverse (contents c.locals.new.scope) in
-    let bound : own ≡ reverse (map name_of xs) =
-    ap reverse (c.in_ok-body-in-Function.ensures.bound ∙ ap (λ (l : List ℕ). l ++ map name_of xs) none) in
-    body-answered globals functions ds f p.is a same own _ _ _ bound w.0 (omega (arith, p.whole))
-    c.statement.ensures.answer
+    let p = function-past (goal.at.returns-in_ok-body-in-Function c).In_ok-body-in-Function in
+    function-answered c.args.self.now c.args.at _ _ _ _ p _ (empty c.new-scope.result c.new-scope.ensures.height) _ _ refl
+    c.in_ok-body-in-Function.ensures.answer c.in_ok-body-in-Function.ensures.bound c.statement.ensures.answer
 
 pub returns-in_default : goal.returns-in_default
 returns-in_default c =
-    let table : List Record = c.args.self.now.table.now in
+    let table = c.args.self.now.table.now in
     let p = first-variable table c.args.at 1 no_record (lit< tt) c.requires.parts.sound
     (λ e. c.in_default.not-Function (c.node_kind.ensures ∙ e)) in
     variable-answered (reverse c.args.self.now.globals.now) c.args.self.now.functions.now
