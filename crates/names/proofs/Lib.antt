@@ -4,7 +4,6 @@ pub mod Outcomes
 pub mod Rules
 pub mod Scopes
 pub mod Blocks
-pub mod Growth
 pub mod Globals
 pub mod Functions
 pub mod Programs

@@ -1,16 +1,19 @@
 -- The names in scope, one local after another, and dropped again.
 use Rattle.std.proofs.Common.{◌≡◌, ℕ, not, List, [], ◌∷◌, ◌++◌, map, reverse, length, take, ℤ, Ok, Err, Result, sym, refl, ap, ◌∙◌, append_assoc}
 use Rattle.std.proofs.lemmas.List.{reverse-append, take_at}
-use Rattle.std.proofs.lemmas.Result.{IfOk-weaker}
 use Rattle.stack.specs.declared.Stack.{Stack}
+use Rattle.stack.specs.Store.{contents}
 use Rattle.script.specs.declared.refusal.Refusal.{Refusal}
 use Rattle.script.specs.declared.refusal.Refusal.TheVariants.{DeclaredTwice}
 use Rattle.syntax.specs.Syntax.{VariableDeclaration, declare, Statement, Statements, name_of, bind_names}
 use Rattle.syntax.proofs.Statements.{bound}
 use Rattle.names.specs.declared.signature.Signature.{Signature}
 use Rattle.names.specs.Names.{Answer, unless, local_rules, statement_rules, block_rules, declared}
-use Rattle.names.specs.Passes.{outcome, Kept}
+use Rattle.names.specs.Passes.{outcome}
 use Rattle.names.proofs.Outcomes.{refused-own, on}
+
+pub empty : {T : Type 0} (s : Stack T) → s.height ≡ 0 → contents s ≡ []
+empty s h = ap (λ (n : ℕ). take n s.words.now) h
 
 -- A declaration of x at a place, and others after it: `seen` are the names that the search went through.
 module _ (globals : List ℕ) (ds es : List VariableDeclaration) (a x : ℕ) (v : ℤ) (scope seen : List ℕ)
@@ -37,15 +40,6 @@ module _ (globals : List ℕ) (ds es : List VariableDeclaration) (a x : ℕ) (v 
 pub dropped : (scope ys inner seen out : List ℕ) (n : ℕ) → length scope ≡ n → inner ≡ scope ++ ys → seen ≡ inner → out
     ≡ take n seen → out ≡ scope
 dropped scope ys inner seen out n l p q h = h ∙ rw (q, p) (take_at scope ys n l)
-
--- What two passes keep, one after the other.
-pub kept-on : (before between after : Stack ℕ) (n : ℕ) (r : Result ℕ Refusal) → Kept (Ok n) before between →
-    Kept r between after → Kept r before after
-kept-on before between after n r p q = record {
-  names = IfOk-weaker r _ _ (λ _ e. e ∙ p.names) q.names;
-  height = IfOk-weaker r _ _ (λ _ e. e ∙ p.height) q.height;
-  store = q.store ∙ p.store;
-}
 
 -- Statements under equal scopes, and under a block's locals.
 module _ (globals : List ℕ) (functions : List Signature) (ss : Statements) (n : ℕ) (r : Result ℕ Refusal) where

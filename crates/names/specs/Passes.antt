@@ -31,8 +31,9 @@ record_rule globals functions own is.Assignment r at = unless (declared globals 
 record_rule globals functions own is.Call r at = call_rule r.a functions (first_parts r) at
 record_rule globals functions own _ r at = Ok tt
 
--- Under what a program declares: is a name one of the scope's or of the globals'.
+-- Under what a program declares.
 module _ (c : Context) where
+  -- Is a name one of the scope's or of the globals'.
   abbrev pub known : ℕ → List ℕ → Bool
   known x scope = declared (reverse c.globals.now) x (reverse scope)
 

@@ -7,7 +7,7 @@ use Rattle.syntax.specs.Typed.{program_of}
 use Rattle.syntax.proofs.Declarations.{programmed}
 use Rattle.syntax.proofs.Shaped.{few-declarations}
 use Rattle.names.specs.Tables.{main_at}
-use Rattle.names.proofs.Growth.{empty}
+use Rattle.names.proofs.Scopes.{empty}
 use Rattle.names.proofs.Outcomes.{went}
 use Rattle.names.proofs.Programs.{Found, need-of-main, globals-refused, globals-found, bodies-refused, need-refused}
 use Rattle.names.proofs.Programs.{accepted}
@@ -66,17 +66,16 @@ returns-in_err-check_need-clause-answer c =
     rw (q.1, q.2)
     (need-refused c.args.table.now _ _ _ f v.0 _ _ own c.max-need.ensures _ c.in_err-check_need.ensures)
 
-pub returns : goal.returns
-returns c =
-    let f = found (goal.at.returns c).After-live-2 in
+pub returns-clause-answer : goal.returns-clause-answer
+returns-clause-answer c =
+    let f = found (goal.at.returns-clause-answer c).After-live-2 in
     let v = went _ _ _ c.in_ok-main.ensures in
     let own = c.statement.ensures.words ∙ need-of-main c.args.table.now c.requires.within.0 c.requires.sound _ v.1 in
-    record {
-      answer = accepted c.args.table.now _ _ _ f v.0 _ _ own c.max-need.ensures _ v.1 c.in_ok-check_need.ensures;
-      variables = sym c.live.ensures ∙ f.variables;
-      signatures = sym c.live-2.ensures ∙ f.signatures;
-      lenders = (
-        c.in_ok-found.ensures.lenders.0 ∙ c.cut.ensures.lender,
-        c.in_ok-found.ensures.lenders.1 ∙ c.cut-2.ensures.lender,
-      );
-    }
+    accepted c.args.table.now _ _ _ f v.0 _ _ own c.max-need.ensures _ v.1 c.in_ok-check_need.ensures
+
+pub returns-clause-variables : goal.returns-clause-variables
+returns-clause-variables c = sym c.live.ensures ∙ (found (goal.at.returns-clause-variables c).After-live-2).variables
+
+pub returns-clause-signatures : goal.returns-clause-signatures
+returns-clause-signatures c =
+    sym c.live-2.ensures ∙ (found (goal.at.returns-clause-signatures c).After-live-2).signatures

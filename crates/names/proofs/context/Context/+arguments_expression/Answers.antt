@@ -2,7 +2,7 @@ use Rattle.std.proofs.Common.{◌<◌, sym, refl, arith}
 use Rattle.std.proofs.lemmas.Result.{err_from_is_err_and}
 use Rattle.syntax.specs.Trees.{no_record}
 use Rattle.syntax.proofs.Expressions.{expressed, firsts}
-use Rattle.names.proofs.Outcomes.{refused, refused-own, went, on}
+use Rattle.names.proofs.Outcomes.{refused-own, went, on}
 use Rattle.names.proofs.Rules.{expression-rules}
 use Rattle.names.proofs.context.Context.+arguments_expression.Goals as goal
 
@@ -11,13 +11,6 @@ arguments-expression-requires t c =
     let k : 0 < c.args.count = omega arith in
     let p = firsts c.args.self.now.table.now c.args.at c.args.count _ _ k c.requires.sound refl in
     (omega arith, record { within = p.within; sound = p.first })
-
-pub arguments-returns-in_err-next : goal.arguments-returns-in_err-next
-arguments-returns-in_err-next t c =
-    let k : 0 < c.args.count = omega arith in
-    let p = firsts c.args.self.now.table.now c.args.at c.args.count _ _ k c.requires.sound refl in
-    let q = err_from_is_err_and c.from_residual.result c.from_residual.ensures.1 in
-    rw (q.1, q.2, p.parts) (refused _ _ _ _ _ c.in_err-next.ensures)
 
 pub arguments-arguments-requires : goal.arguments-arguments-requires
 arguments-arguments-requires t c =

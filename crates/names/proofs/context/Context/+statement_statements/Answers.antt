@@ -7,9 +7,9 @@ use Rattle.syntax.specs.Trees.{no_record}
 use Rattle.syntax.proofs.Expressions.{Firsts, firsts}
 use Rattle.syntax.proofs.Statements.{Blocked, Stated, stated, blocked}
 use Rattle.names.specs.Passes.{checked_expression}
-use Rattle.names.proofs.Blocks.{locals-refused, block-answered, test-refused, plain-answered, first-refused, first-passed}
+use Rattle.names.proofs.Blocks.{locals-refused, block-answered, test-refused, plain-answered, first-passed}
 use Rattle.names.proofs.Outcomes.{went}
-use Rattle.names.proofs.Scopes.{dropped, kept-on}
+use Rattle.names.proofs.Scopes.{dropped}
 use Rattle.names.proofs.context.Context.+statement_statements.Goals as goal
 use Rattle.names.proofs.context.Context.+statement_statements.Goals.{statement-In_ok-first-in-Block, statement-In_ok-next-in_default, statements-In_ok-next}
 
@@ -129,14 +129,6 @@ statements-statement-requires t c =
     let p = firsts c.args.self.now.table.now c.args.at c.args.count _ _ k c.requires.parts.sound refl in
     (omega arith, (record { within = p.within; sound = p.first }, c.requires.room))
 
-pub statements-returns-in_err-next-clause-answer : goal.statements-returns-in_err-next-clause-answer
-statements-returns-in_err-next-clause-answer t c =
-    let k : 0 < c.args.count = omega arith in
-    let p = firsts c.args.self.now.table.now c.args.at c.args.count _ _ k c.requires.parts.sound refl in
-    let q = err_from_is_err_and c.from_residual.result c.from_residual.ensures.1 in
-    rw (q.1, q.2)
-    (first-refused c.args.self.now (contents c.args.scope.now) c.args.at _ _ p _ c.in_err-next.ensures.answer)
-
 pub statements-statements-requires : goal.statements-statements-requires
 statements-statements-requires t c =
     let p = several t (goal.at.statements-statements-requires t c).In_ok-next in
@@ -148,11 +140,8 @@ statements-statements-requires t c =
       ),
     )
 
-pub statements-returns : goal.statements-returns
-statements-returns t c =
-    let p = several t (goal.at.statements-returns t c).In_ok-next in
-    record {
-      answer = first-passed c.args.self.now (contents c.args.scope.now) c.args.at _ _ p _ _ c.in_ok-next.ensures.answer
-          c.in_ok-next.ensures.scope.names c.statements.ensures.answer;
-      scope = kept-on _ _ _ _ _ c.in_ok-next.ensures.scope c.statements.ensures.scope;
-    }
+pub statements-returns-clause-answer : goal.statements-returns-clause-answer
+statements-returns-clause-answer t c =
+    let p = several t (goal.at.statements-returns-clause-answer t c).In_ok-next in
+    first-passed c.args.self.now (contents c.args.scope.now) c.args.at _ _ p _ _ c.in_ok-next.ensures.answer
+    c.in_ok-next.ensures.scope.names c.statements.ensures.answer

@@ -1,22 +1,10 @@
-use Rattle.std.proofs.Common.{◌≡◌, ℕ, ◌+◌, ◌-◌, ◌<◌, refl, ◌∙◌, add-zero, arith}
+use Rattle.std.proofs.Common.{◌≡◌, ℕ, ◌+◌, ◌-◌, ◌<◌, ◌∙◌, arith}
 use Rattle.std.proofs.lemmas.Result.{err_from_is_err_and}
 use Rattle.script.specs.declared.rows.Sort.TheVariants.{Declaration}
 use Rattle.names.proofs.Functions.{functions-refused, functions-done}
 use Rattle.names.proofs.Outcomes.{went}
 use Rattle.names.proofs.Several.{first}
 use Rattle.names.proofs.context.Context.bodies.Goals as goal
-
-pub loop-init : goal.loop-init
-loop-init c =
-    let e : c.args.count - 0 ≡ c.args.count = omega arith in
-    rw e record { parts = c.requires.parts; answer = refl }
-
-pub body-requires : goal.body-requires
-body-requires c =
-    let left : ℕ = c.args.count - c.loop.counter in
-    let k : 0 < left = omega arith in
-    let p = first c.args.self.now.table.now c.loop.next left _ Declaration k c.loop.invariant.parts refl in
-    record { parts = p.first; room = omega arith }
 
 pub returns-in_err-next : goal.returns-in_err-next
 returns-in_err-next c =
@@ -40,9 +28,3 @@ loop-preserved c =
           c.in_ok-next.ensures
           ∙ c.loop.invariant.answer;
     }
-
-pub returns : goal.returns
-returns c =
-    let e : c.args.count - c.loop.counter ≡ 0 = omega arith in
-    let i = rw e at c.loop.invariant in
-    rw add-zero at i.answer

@@ -5,8 +5,8 @@ use Rattle.syntax.specs.Trees.{tree_at, size, no_record}
 use Rattle.syntax.specs.Typed.{declarations_at}
 use Rattle.syntax.proofs.Expressions.{firsts}
 use Rattle.syntax.proofs.Declarations.{FirstFunction, first_function, first-variable}
-use Rattle.names.proofs.Growth.{empty}
 use Rattle.names.proofs.Outcomes.{went}
+use Rattle.names.proofs.Scopes.{empty}
 use Rattle.names.proofs.Functions.{parameters-refused, function-answered, variable-answered}
 use Rattle.names.proofs.context.Context.body.Goals as goal
 use Rattle.names.proofs.context.Context.body.Goals.{After-part_count, In_ok-body-in-Function}
@@ -51,15 +51,10 @@ returns-in_err-body-in-Function c =
     (parameters-refused c.args.self.now c.args.at _ _ _ _ p _ (empty c.new-scope.result c.new-scope.ensures.height) _
     c.in_err-body-in-Function.ensures.answer)
 
-pub statement-requires : goal.statement-requires
-statement-requires c =
-    let w = went _ _ _ c.in_ok-body-in-Function.ensures.answer in
-    let p = function-past (goal.at.statement-requires c).In_ok-body-in-Function in
-    let s : capacity c.new-scope.result ≡ length c.args.names.now = ap length c.new-scope.ensures.words in
-    record {
-      part = record { within = p.function.within; sound = p.function.body };
-      room = omega (arith, w.1, c.in_ok-body-in-Function.ensures.height, c.in_ok-body-in-Function.ensures.store);
-    }
+pub statement-requires-clause-part : goal.statement-requires-clause-part
+statement-requires-clause-part c =
+    let p = function-past (goal.at.statement-requires-clause-part c).In_ok-body-in-Function in
+    record { within = p.function.within; sound = p.function.body }
 
 pub returns-in_ok-body-in-Function : goal.returns-in_ok-body-in-Function
 returns-in_ok-body-in-Function c =

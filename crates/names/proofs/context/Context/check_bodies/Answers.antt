@@ -1,6 +1,5 @@
-use Rattle.std.proofs.Common.{◌≡◌, ℕ, List, [], reverse, length, get_or, refl, ap, arith}
+use Rattle.std.proofs.Common.{ℕ, List, [], reverse, get_or, refl, arith}
 use Rattle.std.proofs.lemmas.Result.{err_from_is_err_and}
-use Rattle.stack.specs.Store.{capacity}
 use Rattle.script.specs.declared.record.Record.{Record}
 use Rattle.syntax.specs.Syntax.{Statement}
 use Rattle.syntax.specs.Trees.{no_record}
@@ -8,20 +7,16 @@ use Rattle.syntax.specs.Typed.{statement_at}
 use Rattle.syntax.proofs.Declarations.{programmed}
 use Rattle.names.specs.declared.signature.Signature.{Signature}
 use Rattle.names.specs.Names.{statement_rules}
-use Rattle.names.proofs.Growth.{empty}
 use Rattle.names.proofs.Outcomes.{refused, refused-after, went, both-fine}
-use Rattle.names.proofs.Scopes.{empty-scope}
+use Rattle.names.proofs.Scopes.{empty, empty-scope}
 use Rattle.names.proofs.context.Context.check_bodies.Goals as goal
 
-pub bodies-requires : goal.bodies-requires
-bodies-requires c =
+pub bodies-requires-clause-parts : goal.bodies-requires-clause-parts
+bodies-requires-clause-parts c =
     let table : List Record = c.args.self.now.table.now in
     let p = programmed table (get_or table 0 no_record).a _ no_record c.requires.program.within c.requires.program.sound
     refl refl in
-    record {
-      parts = record { within = omega (arith, c.requires.program.within); sound = p.declared };
-      room = omega arith;
-    }
+    record { within = omega (arith, c.requires.program.within); sound = p.declared }
 
 pub returns-in_err-main : goal.returns-in_err-main
 returns-in_err-main c =
@@ -31,14 +26,13 @@ returns-in_err-main c =
     let q = err_from_is_err_and c.from_residual.result c.from_residual.ensures.1 in
     rw (q.1, q.2, p.is) (refused _ _ _ _ _ c.in_err-main.ensures)
 
-pub statement-requires : goal.statement-requires
-statement-requires c =
+pub statement-requires-clause-part : goal.statement-requires-clause-part
+statement-requires-clause-part c =
     let table : List Record = c.args.self.now.table.now in
     let w = went _ _ _ c.in_ok-main.ensures in
     let p = programmed table (get_or table 0 no_record).a c.in_ok-main.main no_record c.requires.program.within
     c.requires.program.sound refl w.1 in
-    let store : capacity c.new.result ≡ length c.bodies.new.names = ap length c.new.ensures.words in
-    record { part = record { within = p.within; sound = p.body }; room = omega arith }
+    record { within = p.within; sound = p.body }
 
 pub returns-in_err-statement : goal.returns-in_err-statement
 returns-in_err-statement c =

@@ -1,4 +1,4 @@
-use Rattle.std.proofs.Common.{◌≡◌, ℕ, ◌+◌, ◌-◌, ◌<◌, reverse, sym, refl, ◌∙◌, append-nil, arith}
+use Rattle.std.proofs.Common.{◌≡◌, ℕ, ◌+◌, ◌-◌, ◌<◌, reverse, ◌∙◌, arith}
 use Rattle.std.proofs.lemmas.Result.{err_from_is_err_and}
 use Rattle.stack.specs.Store.{capacity}
 use Rattle.stack.proofs.Contents.{height-pushed, contents-pushed, capacity-pushed}
@@ -7,23 +7,14 @@ use Rattle.syntax.proofs.Statements.{declared-first}
 use Rattle.names.proofs.Scopes.{local-again, local-new, one_more}
 use Rattle.names.proofs.context.Context.locals.Goals as goal
 
-pub loop-place-init : goal.loop-place-init
-loop-place-init c =
-    let e : c.args.at + c.args.count - c.args.at ≡ c.args.count = omega arith in
-    rw e record { sound = c.requires.sound; answer = refl; bound = refl; height = refl; store = refl }
-
-pub returns-in_err-check_new : goal.returns-in_err-check_new
-returns-in_err-check_new c =
+pub returns-in_err-check_new-clause-answer : goal.returns-in_err-check_new-clause-answer
+returns-in_err-check_new-clause-answer c =
     let left : ℕ = c.args.at + c.args.count - c.loop-place.place in
     let k : 0 < left = omega arith in
     let p = declared-first c.args.self.now.table.now c.loop-place.place left no_record k c.loop-place.invariant.sound in
     let q = err_from_is_err_and c.from_residual.result c.from_residual.ensures.1 in
-    rw (q.1, q.2) record {
-      answer = local-again _ _ _ _ _ _ _ _ p.is c.live.ensures _ _ c.in_err-check_new.ensures ∙ c.loop-place.invariant.answer;
-      bound = tt;
-      height = tt;
-      store = c.loop-place.invariant.store;
-    }
+    rw (q.1, q.2)
+    (local-again _ _ _ _ _ _ _ _ p.is c.live.ensures _ _ c.in_err-check_new.ensures ∙ c.loop-place.invariant.answer)
 
 pub loop-place-preserved : goal.loop-place-preserved
 loop-place-preserved c =
@@ -43,15 +34,4 @@ loop-place-preserved c =
           ∙ c.loop-place.invariant.bound;
       height = omega (arith, h, c.loop-place.invariant.height);
       store = s ∙ c.loop-place.invariant.store;
-    }
-
-pub returns : goal.returns
-returns c =
-    let e : c.args.at + c.args.count - c.loop-place.place ≡ 0 = omega arith in
-    let i = rw e at c.loop-place.invariant in
-    record {
-      answer = i.answer;
-      bound = sym (append-nil _) ∙ i.bound;
-      height = omega (arith, i.height);
-      store = i.store;
     }
