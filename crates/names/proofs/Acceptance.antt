@@ -1,5 +1,5 @@
 -- The rules for names pass exactly the programs that are well named: rule by rule, both ways.
-use Rattle.std.proofs.Common.{◌≡◌, ℕ, suc, Bool, true, false, cond, not, ◌||◌, eqb, leb, ◌⊎◌, List, [], ◌∷◌, ◌++◌, map, reverse, length, is_some, Some, Ok, Err, sym, refl, ap, inl, inr, arith}
+use Rattle.std.proofs.Common.{◌≡◌, ℕ, suc, Bool, true, false, cond, not, ◌||◌, eqb, leb, ◌⊎◌, List, [], ◌∷◌, ◌++◌, map, reverse, length, is_some, Some, Ok, Err, sym, refl, ap, inl, inr}
 use Rattle.std.proofs.lemmas.Bool.{eqb-true, eq-eqb, eqb-false, leb-true, le-leb}
 use Rattle.script.specs.declared.refusal.Refusal.{Refusal}
 use Rattle.script.specs.declared.refusal.Refusal.TheVariants.{DeclaredTwice, Undeclared, ArgumentCount, FrameNeed}
@@ -32,7 +32,7 @@ Fine a = a ≡ Ok tt
 -- ---- rules and tests
 
 impossible : false ≡ true → ⊥
-impossible p = let z : ◌≡◌ {A = ℕ} 0 1 = cc in omega arith
+impossible p = cc
 
 both : (a b : Answer) {A B : Type 0} → Fine a ⇔ A → Fine b ⇔ B → Fine (a ⨟ b) ⇔ (A × B)
 both (Ok tt) b f g = (λ p. (f.0 refl, g.0 p), λ q. g.1 q.1)

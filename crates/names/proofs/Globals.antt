@@ -81,17 +81,6 @@ checked_further table found left names functions =
     (measured (max found.words (need_functions (functions_of (declarations_at table found.next left))))
     (found.next + sizes (pieces table found.next left)))
 
-pub from-none : (table : List Record) (at n : ℕ) (names : List ℕ) (functions : List Signature) →
-    checked_further table (measured 0 at) n names functions ≡ checked_globals table n at names functions
-from-none table at n names functions =
-    ap (λ (w : ℕ). outcome (global_rules (declarations_at table at n) (reverse names) functions)
-    (measured w (at + sizes (pieces table at n)))) (omega arith)
-
-pub none-left : (table : List Record) (found : Measured) (names : List ℕ) (functions : List Signature) →
-    Ok found ≡ checked_further table found 0 names functions
-none-left table found names functions =
-    ap Ok (measured-is found (max found.words 0) (found.next + 0) (omega arith) (omega arith))
-
 -- The first of several declarations, and the others under what it declares.
 in-order : (d : Declaration) (ds : List Declaration) (names : List ℕ) (functions : List Signature) →
     global_rules (d ∷ ds) (reverse names) functions
