@@ -131,8 +131,7 @@ statements-statement-requires t c =
 
 pub statements-statements-requires : goal.statements-statements-requires
 statements-statements-requires t c =
-    let p = several t (goal.at.statements-statements-requires t c).In_ok-next in
-    (
+    let p = several t (goal.at.statements-statements-requires t c).In_ok-next in (
       omega (arith, p.later, p.ends, p.within),
       (
         record { within = omega (arith, p.ends); sound = p.others },
