@@ -1,5 +1,7 @@
 pub mod Lists
 pub mod Parts
 pub mod Codes
+pub mod Emitters
+pub mod Declared
 pub mod Programs
 pub mod Lengths
