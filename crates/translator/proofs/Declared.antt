@@ -4,8 +4,8 @@ use Rattle.std.proofs.lemmas.List.{get_or-take, get_or-drop, length-take}
 use Rattle.script.specs.declared.record.Record.{Record}
 use Rattle.script.specs.declared.rows.Sort.TheVariants.{Declaration as DeclarationSort}
 use Rattle.script.specs.declared.rows.NodeKind.TheVariants as is
-use Rattle.syntax.specs.Syntax.{declare, Declaration, of_a_variable, of_a_function, Function}
-use Rattle.syntax.specs.Trees.{tree_at, pieces, size, sizes, Sounds, Leaves, no_record}
+use Rattle.syntax.specs.Syntax.{declare, of_a_variable, of_a_function, Function}
+use Rattle.syntax.specs.Trees.{tree_at, pieces, size, sizes, Leaves, no_record}
 use Rattle.syntax.specs.Typed.{variables_at, declarations_at, function_of, node_at, first_parts}
 use Rattle.syntax.proofs.Expressions.{firsts}
 use Rattle.syntax.proofs.Statements.{declared-first}

@@ -53,10 +53,7 @@ impl<'a, 'b> Emitter<'a, 'b> {
     {
         match find(self.scope.live(), name) {
             Some(slot) => local(slot),
-            None => match find(self.context.globals, name) {
-                Some(slot) => global(slot),
-                None => Operation::Pop,
-            },
+            None => find(self.context.globals, name).map_or(Operation::Pop, global),
         }
     }
 
@@ -66,17 +63,9 @@ impl<'a, 'b> Emitter<'a, 'b> {
     {
         match node_kind(node) {
             NodeKind::Number => Operation::Lit(node.v),
-            NodeKind::Variable => self.variable(
-                node.a,
-                |slot| Operation::GetL(slot),
-                |slot| Operation::GetG(slot),
-            ),
+            NodeKind::Variable => self.variable(node.a, Operation::GetL, Operation::GetG),
             NodeKind::TwoPart(two) => operator(two),
-            NodeKind::Assignment => self.variable(
-                node.a,
-                |slot| Operation::SetL(slot),
-                |slot| Operation::SetG(slot),
-            ),
+            NodeKind::Assignment => self.variable(node.a, Operation::SetL, Operation::SetG),
             NodeKind::Call => Operation::Call(function_index(self.context.functions, node.a)),
             NodeKind::BayRead => Operation::BayR,
             NodeKind::BayWrite => Operation::BayW,

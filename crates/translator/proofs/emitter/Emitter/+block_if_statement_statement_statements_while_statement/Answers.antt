@@ -1,7 +1,6 @@
-use Rattle.std.proofs.Common.{◌≡◌, ℕ, ◌+◌, ◌-◌, ◌<◌, ◌≤◌, List, [], ◌∷◌, ◌++◌, map, reverse, length, get_or, vec_items, vec_len, sym, refl, ap, ◌∙◌, arith}
+use Rattle.std.proofs.Common.{◌≡◌, ℕ, ◌+◌, ◌-◌, ◌<◌, ◌≤◌, List, [], ◌∷◌, map, reverse, length, get_or, vec_items, vec_len, sym, refl, ap, ◌∙◌, arith}
 use Rattle.stack.specs.Store.{contents}
 use Rattle.stack.proofs.Contents.{length-contents, contents-cut}
-use Rattle.script.specs.declared.record.Record.{Record}
 use Rattle.syntax.specs.Trees.{no_record}
 use Rattle.syntax.specs.Syntax.{VariableDeclaration, Statements, name_of, bind_names}
 use Rattle.syntax.specs.Typed.{expression_at, statement_at, statements_at, variables_at}

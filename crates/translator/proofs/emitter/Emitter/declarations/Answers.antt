@@ -1,9 +1,8 @@
-use Rattle.std.proofs.Common.{◌≡◌, ℕ, ◌-◌, ◌<◌, List, [], ◌∷◌, ◌++◌, reverse, length, get_or, ℤ, vec_items, vec_len, sym, refl, ap, ◌∙◌, arith, w32, SFits, rules}
+use Rattle.std.proofs.Common.{◌≡◌, ◌-◌, ◌<◌, [], ◌∷◌, length, get_or, ℤ, vec_len, sym, refl, ap, ◌∙◌, arith, w32, SFits, rules}
 use Rattle.std.proofs.lemmas.Int.{to_z-of_z}
 use Rattle.syntax.proofs.Expressions.{firsts}
 use Rattle.syntax.specs.Trees.{tree_at, no_record}
 use Rattle.syntax.specs.Typed.{function_of}
-use Rattle.code.specs.declared.instruction.FunctionEntry.{FunctionEntry}
 use Rattle.translator.specs.declared.emitter.Emitter.{Emitter}
 use Rattle.translator.specs.Emitting.{SameLoans}
 use Rattle.translator.specs.Records.{entry_of}

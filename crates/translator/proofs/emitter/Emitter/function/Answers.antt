@@ -1,4 +1,4 @@
-use Rattle.std.proofs.Common.{◌≡◌, ℕ, ◌+◌, ◌<◌, List, [], ◌++◌, map, reverse, length, get_or, take, vec_items, vec_len, refl, ap, ◌∙◌, arith, rules}
+use Rattle.std.proofs.Common.{◌≡◌, ℕ, ◌+◌, List, [], ◌++◌, map, reverse, length, get_or, take, vec_items, vec_len, refl, ap, ◌∙◌, arith, rules}
 use Rattle.stack.specs.Store.{contents}
 use Rattle.syntax.specs.Syntax.{name_of}
 use Rattle.syntax.specs.Trees.{tree_at, no_record}

@@ -1,7 +1,6 @@
 use Rattle.std.proofs.Common.{◌≡◌, ℕ, List, [], length, get_or, take, vec_items, vec_len, refl, ap, arith}
-use Rattle.stack.specs.Store.{contents, capacity}
+use Rattle.stack.specs.Store.{contents}
 use Rattle.script.specs.declared.record.Record.{Record}
-use Rattle.syntax.specs.Syntax.{Declaration}
 use Rattle.syntax.specs.Trees.{no_record}
 use Rattle.syntax.specs.Typed.{statement_at, declarations_at, program_of}
 use Rattle.syntax.proofs.Declarations.{programmed}
