@@ -19,7 +19,7 @@ pub struct Emitter<'a, 'b> {
     pub code: &'a mut Vec<Instruction>,
 }
 
-impl<'a, 'b> Emitter<'a, 'b> {
+impl Emitter<'_, '_> {
     ghost use Rattle.translator.specs.Emitting.{SameLoans, Keeps, Emits};
 
     // One instruction of the node at `place`.

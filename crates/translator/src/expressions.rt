@@ -1,4 +1,4 @@
-// Code of expressions: an expression and an argument list, in a ring.
+// Code of expressions: an expression and an argument list, in a ring of recursive functions, as checker and walk are.
 ghost use Rattle.std.specs.Prelude.{◌≡◌, ◌+◌, ◌≤◌, reverse, vec_len, vec_capacity};
 ghost use Rattle.stack.specs.Store.{contents};
 ghost use Rattle.script.specs.declared.rows.Sort.TheVariants.{Expression};
@@ -34,7 +34,7 @@ fn operator(operator: Operator) -> Operation
     }
 }
 
-impl<'a, 'b> Emitter<'a, 'b> {
+impl Emitter<'_, '_> {
     ghost use Rattle.translator.specs.Emitting.{Parts, Keeps, Emits, IsVariableOperation};
     ghost use Rattle.translator.specs.Emitting.{operation_here, expression_here, arguments_here};
 

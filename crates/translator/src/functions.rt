@@ -11,7 +11,7 @@ use code::instruction::{FunctionEntry, Operation};
 use script::rows::NodeKind;
 use syntax::parts::{node_kind, part_count};
 
-impl<'a, 'b> Emitter<'a, 'b> {
+impl Emitter<'_, '_> {
     ghost use Rattle.translator.specs.Emitting.{Parts, HasRoomForFunctions, SameLoans, Emits};
     ghost use Rattle.translator.specs.Emitting.{function_here, functions_here, entries_here, numbers_here};
 

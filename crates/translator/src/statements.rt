@@ -1,4 +1,4 @@
-// Code of statements.
+// Code of statements, in a ring of recursive functions, as checker and walk are.
 ghost use Rattle.std.specs.Prelude.{◌≡◌, ◌+◌, ◌*◌, ◌≤◌, ◌++◌, map, length, vec_len, vec_capacity};
 ghost use Rattle.stack.specs.Store.{contents, capacity};
 ghost use Rattle.script.specs.declared.rows.Sort.TheVariants.{Statement};
@@ -13,7 +13,7 @@ use code::instruction::Operation;
 use script::rows::NodeKind;
 use syntax::parts::{node_kind, statement_count};
 
-impl<'a, 'b> Emitter<'a, 'b> {
+impl Emitter<'_, '_> {
     ghost use Rattle.translator.specs.Emitting.{Parts, HasRoom, SameLoans, Keeps, Emits, EmitsFewer};
     ghost use Rattle.translator.specs.Emitting.{statement_here, statements_here};
 
