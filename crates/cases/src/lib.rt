@@ -27,7 +27,7 @@ pub fn worked_cases_hold() -> u8
     ensures { WorkedCases }
 {
     let _ = walk::cases::worked_cases_hold();
-    let _ = end_bay_code_stands();
+    end_bay_code_stands();
     let _ = cell_cases_hold();
     0
 }
