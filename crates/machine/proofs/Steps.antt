@@ -1,7 +1,12 @@
 -- What shows that an instruction's code makes it: the instruction's progress, worked out where a test came out one way.
-use Rattle.std.proofs.Common.{◌≡◌, ℕ, suc, ◌-◌, ◌<◌, ◌≤◌, leb, List, sym, ap, ◌∙◌, arith}
+use Rattle.std.proofs.Common.{◌≡◌, ℕ, suc, ◌-◌, ◌<◌, ◌≤◌, leb, List, length, Some, None, Option, sym, refl, ap, ◌∙◌, arith}
+use Rattle.std.specs.List.{slice_get}
+use Rattle.std.specs.Option.{option_copied}
+use Rattle.std.specs.Slice.{IsItemAt}
+use Rattle.std.proofs.lemmas.Option.{slice_get_past, slice_get_read}
+use denote.Ref.{Bor}
 use Rattle.std.proofs.lemmas.Bool.{le-leb}
-use Rattle.script.specs.declared.ending.Ending.{Ending}
+use Rattle.script.specs.declared.ending.RunEnd.{RunEnd}
 use Rattle.machine.specs.declared.state.Machine.{Machine}
 use Rattle.machine.specs.declared.outcome.Step.{Step}
 use Rattle.machine.specs.declared.outcome.Step.TheVariants.{Running, Over}
@@ -16,6 +21,13 @@ module _ {W : Type 0} where
 
   pub pop-one : (n : ℕ) (next : ℕ → Progress W) → 0 < n → pop_one n next ≡ next (n - 1)
   pop-one n next h = let e : n ≡ suc (n - 1) = omega arith in ap (λ (k : ℕ). pop_one k next) e
+
+-- ---- the element that a list lends
+
+pub copied_item :
+    {X : Type 0} (xs : List X) (i : ℕ) (r : Option (Bor X)) → IsItemAt xs i r → option_copied r ≡ slice_get xs i
+copied_item xs i None h = sym (slice_get_past xs i h.3)
+copied_item xs i (Some x) h = sym (slice_get_read xs (length xs) i x.now refl h.3.0 h.1)
 
 -- ---- from an instruction's progress to what its code makes
 
@@ -32,9 +44,9 @@ module _ {W : Type 0} (instruction : MachineState W → Progress W) (m : Machine
     }
 
     pub ends :
-        (ending : Ending) (place : ℕ) → instruction (state_of m words bays) ≡ over ending place (state_of n words' bays')
-        → Makes instruction m words bays (Over ending place) n words' bays'
-    ends ending place e = record {
+        (end : RunEnd) → instruction (state_of m words bays) ≡ over end.ending end.place (state_of n words' bays')
+        → Makes instruction m words bays (Over end) n words' bays'
+    ends end e = record {
       tells = ap answer_of (sym e);
       leaves = ap (λ (p : Progress W). state_after p (state_of m words bays)) (sym e);
       depth = d;

@@ -2,7 +2,6 @@
 use Rattle.std.specs.Prelude.{◌≡◌, ℕ, zero, suc, ◌+◌, ◌-◌, Bool, true, false, List, [], Some, None, Option, nat_lt}
 use Rattle.code.specs.declared.instruction.FunctionEntry.{FunctionEntry}
 use Rattle.kinds.specs.Kinds.{Kind}
-use Rattle.racks.specs.declared.rack.BayFault.{BayFault}
 use Rattle.script.specs.declared.ending.Ending.{Ending}
 use Rattle.machine.specs.declared.outcome.Step.{Step}
 use Rattle.machine.specs.declared.outcome.Step.TheVariants.{Running, Over, Undefined}
@@ -13,7 +12,7 @@ use Rattle.machine.specs.Machine.{step, run, proceed, state_of, image_of}
 -- What the code tells of a progress.
 abbrev pub answer_of : {W : Type 0} → Progress W → Step
 answer_of (running after) = Running
-answer_of (over e place after) = Over e place
+answer_of (over e place after) = Over (record { ending = e; place = place })
 answer_of undefined = Undefined
 
 -- The state that a progress leaves: what the table does not define changes nothing.
@@ -77,11 +76,6 @@ pub record Entered (before after : Machine) (f : FunctionEntry) : Type 0 where
   pub calls : after.calls ≡ before.calls
   pub frames : after.frames ≡ before.frames
 
--- How a run ends that a rack refuses.
-abbrev pub ending_of : BayFault → Ending
-ending_of BayFault.NoSuchBay = Ending.NoSuchBay
-ending_of BayFault.CannotHold = Ending.CannotHold
-
 -- ---- runs
 
 -- One step more where the machine goes on, one where it ends there, none where the step is undefined.
@@ -95,13 +89,20 @@ unfoldable pub steps_made : {W : Type 0} → Image W → ℕ → MachineState W 
 steps_made I zero m = 0
 steps_made I (suc n) m = count_from (step I m) (steps_made I n)
 
--- A run of at most so many steps, from a state: its outcome is that of the definition's run, the steps it made are
--- those, and it leaves the state after them. So where it meets an undefined step it stays where that stands.
-pub record Ran {W : Type 0} (I : Image W) (steps : ℕ) (before : MachineState W) (outcome : Step) (made : ℕ)
-    (after : MachineState W) : Type 0 where
-  pub tells : outcome ≡ answer_of (run I steps before)
-  pub counts : made ≡ steps_made I steps before
-  pub leaves : after ≡ state_after (run I made before) before
+-- How a run came out, the steps it made, and the state that it leaves.
+pub record Ran (W : Type 0) : Type 0 where
+  pub outcome : Step
+  pub made : ℕ
+  pub state : MachineState W
+
+-- A run of at most so many steps: it leaves the state after those it made. So where it meets an undefined step it stays
+-- where that stands.
+abbrev pub run_at_most : {W : Type 0} → Image W → ℕ → MachineState W → Ran W
+run_at_most I steps m = record {
+  outcome = answer_of (run I steps m);
+  made = steps_made I steps m;
+  state = state_after (run I (steps_made I steps m) m) m;
+}
 
 -- Steps made after a first piece of a run, which may be over.
 abbrev pub steps_after : {W : Type 0} → Image W → ℕ → Progress W → ℕ

@@ -2,24 +2,14 @@
 ghost use Rattle.std.specs.Prelude.{◌≡◌, ◌+◌, ◌^◌, ◌<◌, []};
 ghost use Rattle.code.specs.declared.instruction.Operation.TheVariants.{BayR, BayW};
 ghost use Rattle.machine.specs.Machine.{execute, image_of};
-ghost use Rattle.machine.specs.Steps.{Makes, ending_of};
+ghost use Rattle.machine.specs.Steps.{Makes};
 
 use crate::outcome::Step;
 use crate::state::Machine;
 use kinds::NumberKind;
-use racks::{BayFault, Rack};
-use script::ending::Ending;
+use racks::Rack;
+use script::{Ending, RunEnd};
 use stack::Stack;
-
-// How a run ends that a rack refuses.
-fn ending_of(fault: BayFault) -> Ending
-    ensures { result ≡ ending_of fault }
-{
-    match fault {
-        BayFault::NoSuchBay => Ending::NoSuchBay,
-        BayFault::CannotHold => Ending::CannotHold,
-    }
-}
 
 impl Machine {
     // Puts the word of a bay in the place of its slot.
@@ -42,10 +32,10 @@ impl Machine {
         let mut stack = Stack::new(words, self.height);
         let named = stack.get(top, <R::Word as NumberKind>::literal(0));
         let Some(slot) = named.slot() else {
-            return Step::Over(Ending::NoSuchBay, place);
+            return Step::Over(RunEnd { ending: Ending::NoSuchBay, place });
         };
         let Some(word) = rack.read(slot) else {
-            return Step::Over(Ending::NoSuchBay, place);
+            return Step::Over(RunEnd { ending: Ending::NoSuchBay, place });
         };
         stack.put(top, word);
         self.pc += 1;
@@ -72,10 +62,10 @@ impl Machine {
         }
         let (named, word) = self.operands(words);
         let Some(slot) = named.slot() else {
-            return Step::Over(Ending::NoSuchBay, place);
+            return Step::Over(RunEnd { ending: Ending::NoSuchBay, place });
         };
         if let Err(fault) = rack.write(slot, word) {
-            return Step::Over(ending_of(fault), place);
+            return Step::Over(RunEnd { ending: Ending::from(fault), place });
         }
         self.replace_two(words, word);
         Step::Running

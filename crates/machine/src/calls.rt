@@ -1,5 +1,5 @@
 // Instructions on fuel, calls and the program counter.
-ghost use Rattle.std.specs.Prelude.{◌≡◌, ◌+◌, ◌-◌, ◌^◌, ◌<◌, ◌≤◌, false, [], length, Some, OnSome, slice_index_or, slice_set};
+ghost use Rattle.std.specs.Prelude.{◌≡◌, ◌+◌, ◌-◌, ◌^◌, ◌<◌, ◌≤◌, false, [], Some, slice_index_or, slice_set};
 ghost use Rattle.std.specs.List.{slice_get};
 ghost use Rattle.kinds.specs.Words.{zero_word};
 ghost use Rattle.code.specs.declared.instruction.Operation.TheVariants.{Jmp, Tick, Call, Ret, Halt};
@@ -10,16 +10,8 @@ use crate::outcome::Step;
 use crate::state::{Frame, Frames, Machine};
 use code::instruction::FunctionEntry;
 use kinds::NumberKind;
-use script::ending::Ending;
+use script::{Ending, RunEnd};
 use stack::Stack;
-
-// The element at `i`, if there is one.
-pub(crate) fn element<T: Copy>(list: &[T], i: usize) -> Option<T>
-    ensures value { result ≡ slice_get list.now i }
-    ensures bound { OnSome result (i < length list.now) }
-{
-    if i < list.len() { Some(list[i]) } else { None }
-}
 
 impl Frames {
     // Writes record `i`, and no other.
@@ -54,7 +46,7 @@ impl Machine {
             self.old result self.new }
     {
         if self.fuel == 0 {
-            return Step::Over(Ending::NoFuel, place);
+            return Step::Over(RunEnd { ending: Ending::NoFuel, place });
         }
         self.fuel -= 1;
         self.pc += 1;
@@ -97,14 +89,14 @@ impl Machine {
             (image_of W.NumberKind.kind (λ _. false) [] entries.now self.old) (Call f) place)
             self.old result self.new }
     {
-        let Some(function) = element(entries, f) else {
+        let Some(function) = entries.get(f).copied() else {
             return Step::Undefined;
         };
         if function.parameters > self.height {
             return Step::Undefined;
         }
         if let Some(ending) = self.call_refused() {
-            return Step::Over(ending, place);
+            return Step::Over(RunEnd { ending, place });
         }
         let caller = Frame {
             return_to: self.pc + 1,
@@ -161,6 +153,6 @@ impl Machine {
         let answer = stack.pop(W::literal(0));
         stack.put(self.globals, answer);
         self.height = stack.height();
-        Step::Over(Ending::Done, 0)
+        Step::Over(RunEnd { ending: Ending::Done, place: 0 })
     }
 }

@@ -1,10 +1,8 @@
 // What the machine keeps besides the word store and the bays.
 ghost use Rattle.std.specs.Prelude.{◌≤◌};
 
-use script::Ending;
-
 // What a return needs: the instruction to go on with, and where the caller's frame starts.
-#[derive(Clone, Copy)]
+#[derive(Clone, Copy, PartialEq, Eq, Debug)]
 pub struct Frame {
     pub return_to: usize,
     pub base: usize,
@@ -34,11 +32,4 @@ pub struct Machine {
     // there is a record for every call that the depth lets in
     ghost shallow: { depth ≤ 63 },
     ghost recorded: { calls ≤ 63 },
-}
-
-// How a run has ended, and at which record.
-#[derive(Clone, Copy)]
-pub struct RunEnd {
-    pub ending: Ending,
-    pub place: usize,
 }

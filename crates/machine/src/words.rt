@@ -1,8 +1,8 @@
 // Instructions on the words of the stack.
 ghost use Rattle.std.specs.Prelude.{◌≡◌, suc, ◌+◌, ◌-◌, ◌^◌, ◌<◌, ◌≤◌, slice_index_or, slice_set};
 ghost use Rattle.kinds.specs.Words.{zero_word, truth_word};
-ghost use Rattle.code.specs.declared.instruction.Operation.TheVariants.{GetL, SetL, Add, Sub, Gt, Pop, Jz};
-ghost use Rattle.machine.specs.Machine.{execute, push, fetch_word, store_word};
+ghost use Rattle.code.specs.declared.instruction.Operation.TheVariants.{GetL, SetL, Pop, Jz};
+ghost use Rattle.machine.specs.Machine.{execute, push, fetch_word, store_word, combine};
 ghost use Rattle.machine.specs.Steps.{MakesOnWords, MakesAlone, MovedTo, word_image};
 
 use crate::outcome::Step;
@@ -11,7 +11,7 @@ use kinds::NumberKind;
 use stack::Stack;
 
 // A test as a word.
-fn truth<W: NumberKind>(test: bool) -> W
+pub(crate) fn truth<W: NumberKind>(test: bool) -> W
     ensures { result ≡ truth_word W.NumberKind.kind test }
 {
     if test { W::literal(1) } else { W::literal(0) }
@@ -119,42 +119,24 @@ impl Machine {
         self.pc += 1;
     }
 
-    pub(crate) fn add<W: NumberKind + Copy>(&mut self, words: &mut [W]) -> Step
-        requires { self.old.pc + 1 < 2 ^ 64 }
-        ensures { MakesOnWords (execute (word_image W.NumberKind.kind self.old) Add 0)
+    // Puts what `f` makes of the two topmost words in their place.
+    pub(crate) fn combine<W: NumberKind + Copy, F: FnOnce(W, W) -> W>(
+        &mut self,
+        words: &mut [W],
+        f: F,
+    ) -> Step
+        requires next { self.old.pc + 1 < 2 ^ 64 }
+        requires callable { F.IsAlwaysCallable f }
+        ensures { (made : W → W → W)
+            → ((x y z : W) → F.post f x y z → z ≡ made x y)
+            → MakesOnWords (combine (word_image W.NumberKind.kind self.old) made)
             self.old words.old result self.new words.new }
     {
         if self.height < 2 {
             return Step::Undefined;
         }
         let (first, second) = self.operands(words);
-        self.replace_two(words, first.sum(second));
-        Step::Running
-    }
-
-    pub(crate) fn subtract<W: NumberKind + Copy>(&mut self, words: &mut [W]) -> Step
-        requires { self.old.pc + 1 < 2 ^ 64 }
-        ensures { MakesOnWords (execute (word_image W.NumberKind.kind self.old) Sub 0)
-            self.old words.old result self.new words.new }
-    {
-        if self.height < 2 {
-            return Step::Undefined;
-        }
-        let (first, second) = self.operands(words);
-        self.replace_two(words, first.difference(second));
-        Step::Running
-    }
-
-    pub(crate) fn compare<W: NumberKind + Copy>(&mut self, words: &mut [W]) -> Step
-        requires { self.old.pc + 1 < 2 ^ 64 }
-        ensures { MakesOnWords (execute (word_image W.NumberKind.kind self.old) Gt 0)
-            self.old words.old result self.new words.new }
-    {
-        if self.height < 2 {
-            return Step::Undefined;
-        }
-        let (first, second) = self.operands(words);
-        self.replace_two(words, truth(first.greater(second)));
+        self.replace_two(words, f(first, second));
         Step::Running
     }
 

@@ -1,5 +1,6 @@
 use Rattle.std.proofs.Common.{w32, SFits, rules}
 use Rattle.std.proofs.lemmas.Int.{to_z-of_z}
+use Rattle.kinds.specs.Words.{truth_word}
 use Rattle.machine.proofs.state.Machine.execute.Goals as goal
 
 pub returns-in-Lit : goal.returns-in-Lit
@@ -21,13 +22,19 @@ pub returns-in-SetG : goal.returns-in-SetG
 returns-in-SetG g c = let h = c.store_word.ensures (g.R.Rack.bays c.args.rack.now) in search rules
 
 pub returns-in-Add : goal.returns-in-Add
-returns-in-Add g c = let h = c.add.ensures (g.R.Rack.bays c.args.rack.now) in search rules
+returns-in-Add g c =
+    let kind = g.R.Word.NumberKind.kind in
+    let h = c.combine.ensures (λ x y. kind.sum x y) (λ x y z e. search rules) (g.R.Rack.bays c.args.rack.now) in search rules
 
 pub returns-in-Sub : goal.returns-in-Sub
-returns-in-Sub g c = let h = c.subtract.ensures (g.R.Rack.bays c.args.rack.now) in search rules
+returns-in-Sub g c =
+    let kind = g.R.Word.NumberKind.kind in
+    let h = c.combine-in-Sub.ensures (λ x y. kind.difference x y) (λ x y z e. search rules) (g.R.Rack.bays c.args.rack.now) in search rules
 
 pub returns-in-Gt : goal.returns-in-Gt
-returns-in-Gt g c = let h = c.compare.ensures (g.R.Rack.bays c.args.rack.now) in search rules
+returns-in-Gt g c =
+    let kind = g.R.Word.NumberKind.kind in
+    let h = c.combine-in-Gt.ensures (λ x y. truth_word kind (kind.greater x y)) (λ x y z e. search rules) (g.R.Rack.bays c.args.rack.now) in search rules
 
 pub returns-in-Pop : goal.returns-in-Pop
 returns-in-Pop g c = let h = c.drop_word.ensures c.args.words.now (g.R.Rack.bays c.args.rack.now) in search rules
