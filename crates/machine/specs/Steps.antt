@@ -31,24 +31,37 @@ pub record Makes {W : Type 0} (instruction : MachineState W → Progress W) (bef
   pub depth : after.depth ≡ before.depth
   pub globals : after.globals ≡ before.globals
 
--- The same of an instruction that concerns no bay, whatever the bays hold; and of one that concerns no word either.
+-- The machine after an answer, with the program counter moved back where it does not go on.
+abbrev pub moved_back : Step → ℕ → Machine → Machine
+moved_back Running pc m = m
+moved_back (Over end) pc m = record m { pc = pc }
+moved_back Undefined pc m = record m { pc = pc }
+
+-- The same of a machine whose program counter was moved on before, and is moved back after.
+abbrev pub MakesMoved :
+    {W : Type 0} → (MachineState W → Progress W) → Machine → List W → List W → Step → Machine → List W → List W → Type 0
+MakesMoved instruction before words bays answer after words' bays' =
+    (pc : ℕ) → before.pc ≡ pc + 1
+    → Makes instruction (record before { pc = pc }) words bays answer (moved_back answer pc after) words' bays'
+
+-- And of an instruction that concerns no bay, whatever the bays hold; and of one that concerns no word either.
 abbrev pub MakesOnWords :
     {W : Type 0} → (MachineState W → Progress W) → Machine → List W → Step → Machine → List W → Type 0
 MakesOnWords {W = W} instruction before words answer after words' =
-    (bays : List W) → Makes instruction before words bays answer after words' bays
+    (bays : List W) → MakesMoved instruction before words bays answer after words' bays
 
 abbrev pub MakesAlone : {W : Type 0} → (MachineState W → Progress W) → Machine → Step → Machine → Type 0
 MakesAlone {W = W} instruction before answer after =
-    (words bays : List W) → Makes instruction before words bays answer after words bays
+    (words bays : List W) → MakesMoved instruction before words bays answer after words bays
 
 -- What an instruction that concerns no bay and no code runs on: the kind and the machine's own limits.
 abbrev pub word_image : {W : Type 0} → Kind W → Machine → Image W
 word_image kind m = image_of kind (λ _. false) [] [] m
 
--- Only the height and the next instruction of a machine have changed.
-pub record MovedTo (before after : Machine) (h p : ℕ) : Type 0 where
+-- Only the height of a machine has changed.
+pub record MovedTo (before after : Machine) (h : ℕ) : Type 0 where
   pub height : after.height ≡ h
-  pub pc : after.pc ≡ p
+  pub pc : after.pc ≡ before.pc
   pub base : after.base ≡ before.base
   pub fuel : after.fuel ≡ before.fuel
   pub globals : after.globals ≡ before.globals
@@ -64,17 +77,6 @@ refused_by true (suc n) = None
 
 abbrev pub call_refused : Machine → Option Ending
 call_refused m = refused_by (nat_lt m.calls m.depth) m.fuel
-
--- A function has been entered, for one fuel: its frame starts at its first argument.
-pub record Entered (before after : Machine) (f : FunctionEntry) : Type 0 where
-  pub pc : after.pc ≡ f.start
-  pub base : after.base ≡ before.height - f.parameters
-  pub height : after.height ≡ before.height
-  pub fuel : after.fuel ≡ before.fuel - 1
-  pub globals : after.globals ≡ before.globals
-  pub depth : after.depth ≡ before.depth
-  pub calls : after.calls ≡ before.calls
-  pub frames : after.frames ≡ before.frames
 
 -- ---- runs
 

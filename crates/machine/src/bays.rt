@@ -2,7 +2,7 @@
 ghost use Rattle.std.specs.Prelude.{◌≡◌, ◌+◌, ◌^◌, ◌<◌, []};
 ghost use Rattle.code.specs.declared.instruction.Operation.TheVariants.{BayR, BayW};
 ghost use Rattle.machine.specs.Machine.{execute, image_of};
-ghost use Rattle.machine.specs.Steps.{Makes};
+ghost use Rattle.machine.specs.Steps.{MakesMoved};
 
 use crate::outcome::Step;
 use crate::state::Machine;
@@ -19,8 +19,7 @@ impl Machine {
         rack: &R,
         place: usize,
     ) -> Step
-        requires { self.old.pc + 1 < 2 ^ 64 }
-        ensures { Makes (execute
+        ensures { MakesMoved (execute
             (image_of R.Word.NumberKind.kind (R.Rack.holds rack.now) [] [] self.old) BayR place)
             self.old words.old (R.Rack.bays rack.now) result
             self.new words.new (R.Rack.bays rack.now) }
@@ -32,13 +31,18 @@ impl Machine {
         let mut stack = Stack::new(words, self.height);
         let named = stack.get(top, <R::Word as NumberKind>::literal(0));
         let Some(slot) = named.slot() else {
-            return Step::Over(RunEnd { ending: Ending::NoSuchBay, place });
+            return Step::Over(RunEnd {
+                ending: Ending::NoSuchBay,
+                place,
+            });
         };
         let Some(word) = rack.read(slot) else {
-            return Step::Over(RunEnd { ending: Ending::NoSuchBay, place });
+            return Step::Over(RunEnd {
+                ending: Ending::NoSuchBay,
+                place,
+            });
         };
         stack.put(top, word);
-        self.pc += 1;
         Step::Running
     }
 
@@ -49,8 +53,7 @@ impl Machine {
         rack: &mut R,
         place: usize,
     ) -> Step
-        requires { self.old.pc + 1 < 2 ^ 64 }
-        ensures makes { Makes (execute
+        ensures makes { MakesMoved (execute
             (image_of R.Word.NumberKind.kind (R.Rack.holds rack.old) [] [] self.old) BayW place)
             self.old words.old (R.Rack.bays rack.old) result
             self.new words.new (R.Rack.bays rack.new) }
@@ -62,10 +65,16 @@ impl Machine {
         }
         let (named, word) = self.operands(words);
         let Some(slot) = named.slot() else {
-            return Step::Over(RunEnd { ending: Ending::NoSuchBay, place });
+            return Step::Over(RunEnd {
+                ending: Ending::NoSuchBay,
+                place,
+            });
         };
         if let Err(fault) = rack.write(slot, word) {
-            return Step::Over(RunEnd { ending: Ending::from(fault), place });
+            return Step::Over(RunEnd {
+                ending: Ending::from(fault),
+                place,
+            });
         }
         self.replace_two(words, word);
         Step::Running

@@ -4,7 +4,7 @@ ghost use Rattle.std.specs.List.{slice_get};
 ghost use Rattle.kinds.specs.Words.{zero_word};
 ghost use Rattle.code.specs.declared.instruction.Operation.TheVariants.{Jmp, Tick, Call, Ret, Halt};
 ghost use Rattle.machine.specs.Machine.{execute, image_of};
-ghost use Rattle.machine.specs.Steps.{MakesOnWords, MakesAlone, MovedTo, Entered, call_refused, word_image};
+ghost use Rattle.machine.specs.Steps.{MakesOnWords, MakesAlone, MovedTo, call_refused, word_image};
 
 use crate::outcome::Step;
 use crate::state::{Frame, Frames, Machine};
@@ -41,15 +41,16 @@ impl Machine {
 
     // Spends one fuel.
     pub(crate) fn tick<W: NumberKind>(&mut self, place: usize) -> Step
-        requires { self.old.pc + 1 < 2 ^ 64 }
         ensures { MakesAlone (execute (word_image W.NumberKind.kind self.old) Tick place)
             self.old result self.new }
     {
         if self.fuel == 0 {
-            return Step::Over(RunEnd { ending: Ending::NoFuel, place });
+            return Step::Over(RunEnd {
+                ending: Ending::NoFuel,
+                place,
+            });
         }
         self.fuel -= 1;
-        self.pc += 1;
         Step::Running
     }
 
@@ -66,25 +67,13 @@ impl Machine {
         None
     }
 
-    // Enters a function, for one fuel.
-    fn enter(&mut self, function: FunctionEntry)
-        requires fuel { 0 < self.old.fuel }
-        requires arguments { function.parameters ≤ self.old.height }
-        ensures { Entered self.old self.new function }
-    {
-        self.fuel -= 1;
-        self.base = self.height - function.parameters;
-        self.pc = function.start;
-    }
-
-    // Calls a function whose arguments are on the stack.
+    // Calls a function whose arguments are on the stack, for one fuel: its frame starts at its first argument.
     pub(crate) fn call<W: NumberKind>(
         &mut self,
         entries: &[FunctionEntry],
         f: usize,
         place: usize,
     ) -> Step
-        requires { self.old.pc + 1 < 2 ^ 64 }
         ensures { MakesAlone (execute
             (image_of W.NumberKind.kind (λ _. false) [] entries.now self.old) (Call f) place)
             self.old result self.new }
@@ -99,12 +88,14 @@ impl Machine {
             return Step::Over(RunEnd { ending, place });
         }
         let caller = Frame {
-            return_to: self.pc + 1,
+            return_to: self.pc,
             base: self.base,
         };
         self.frames.note(self.calls, caller);
         self.calls += 1;
-        self.enter(function);
+        self.fuel -= 1;
+        self.base = self.height - function.parameters;
+        self.pc = function.start;
         Step::Running
     }
 
@@ -114,7 +105,7 @@ impl Machine {
         ensures words { words.new ≡ slice_set words.old self.old.base
             (slice_index_or words.old (self.old.height - 1) (zero_word W.NumberKind.kind)) }
         ensures machine { MovedTo self.old self.new
-            (self.old.base + 1) self.old.pc }
+            (self.old.base + 1) }
     {
         let mut stack = Stack::new(words, self.height);
         let result = stack.pop(W::literal(0));
@@ -153,6 +144,9 @@ impl Machine {
         let answer = stack.pop(W::literal(0));
         stack.put(self.globals, answer);
         self.height = stack.height();
-        Step::Over(RunEnd { ending: Ending::Done, place: 0 })
+        Step::Over(RunEnd {
+            ending: Ending::Done,
+            place: 0,
+        })
     }
 }

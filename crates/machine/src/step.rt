@@ -1,7 +1,7 @@
 // Steps and runs of the machine.
 ghost use Rattle.std.specs.Prelude.{◌≡◌, ◌+◌, ◌^◌, ◌<◌, List};
 ghost use Rattle.machine.specs.Machine.{execute, step, image_of, state_of};
-ghost use Rattle.machine.specs.Steps.{Makes, run_at_most, InPieces};
+ghost use Rattle.machine.specs.Steps.{Makes, MakesMoved, run_at_most, InPieces};
 
 use crate::outcome::{Run, Step};
 use crate::state::Machine;
@@ -24,7 +24,7 @@ fn ended(end: RunEnd, before: u32) -> Run
 }
 
 impl Machine {
-    // One instruction of the table.
+    // One instruction of the table, once the program counter is moved on.
     fn execute<R: Rack>(
         &mut self,
         words: &mut [R::Word],
@@ -32,8 +32,7 @@ impl Machine {
         entries: &[FunctionEntry],
         instruction: Instruction,
     ) -> Step
-        requires { self.old.pc + 1 < 2 ^ 64 }
-        ensures makes { («code» : List Instruction) → Makes (execute
+        ensures makes { («code» : List Instruction) → MakesMoved (execute
             (image_of R.Word.NumberKind.kind (R.Rack.holds rack.old) «code» entries.now
             self.old) instruction.operation instruction.place)
             self.old words.old (R.Rack.bays rack.old) result
@@ -63,12 +62,7 @@ impl Machine {
     }
 
     // One step. What the instruction table does not define changes nothing.
-    pub fn step<R: Rack>(
-        &mut self,
-        words: &mut [R::Word],
-        rack: &mut R,
-        code: Code<'_>,
-    ) -> Step
+    pub fn step<R: Rack>(&mut self, words: &mut [R::Word], rack: &mut R, code: Code<'_>) -> Step
         ensures makes { Makes (step
             (image_of R.Word.NumberKind.kind (R.Rack.holds rack.old) code.entry.instructions.now
             code.entry.entries.now self.old))
@@ -80,7 +74,14 @@ impl Machine {
         let Some(instruction) = code.instructions.get(self.pc).copied() else {
             return Step::Undefined;
         };
-        self.execute(words, rack, code.entries, instruction)
+        let here = self.pc;
+        self.pc += 1;
+        let step = self.execute(words, rack, code.entries, instruction);
+        match step {
+            Step::Running => {}
+            Step::Over(_) | Step::Undefined => self.pc = here,
+        }
+        step
     }
 
     // At most `steps` steps: the run stops where it is over, which counts as a step, and stays at an undefined one.
@@ -91,8 +92,11 @@ impl Machine {
         code: Code<'_>,
         steps: u32,
     ) -> Run
-        ensures ran { record { outcome = result.outcome; made = result.made;
-            state = state_of self.new words.new (R.Rack.bays rack.new) }
+        ensures ran { record {
+          outcome = result.outcome;
+          made = result.made;
+          state = state_of self.new words.new (R.Rack.bays rack.new);
+        }
             ≡ run_at_most (image_of R.Word.NumberKind.kind (R.Rack.holds rack.old)
             code.entry.instructions.now code.entry.entries.now self.old) steps
             (state_of self.old words.old (R.Rack.bays rack.old)) }

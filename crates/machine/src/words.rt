@@ -20,7 +20,6 @@ pub(crate) fn truth<W: NumberKind>(test: bool) -> W
 impl Machine {
     // Pushes a word; a full store takes none.
     pub(crate) fn push<W: NumberKind + Copy>(&mut self, words: &mut [W], word: W) -> Step
-        requires { self.old.pc + 1 < 2 ^ 64 }
         ensures { MakesOnWords (push word) self.old words.old result
             self.new words.new }
     {
@@ -30,13 +29,11 @@ impl Machine {
         let mut stack = Stack::new(words, self.height);
         stack.push(word);
         self.height = stack.height();
-        self.pc += 1;
         Step::Running
     }
 
     // Pushes word `i` of the stack.
     pub(crate) fn fetch_word<W: NumberKind + Copy>(&mut self, words: &mut [W], i: usize) -> Step
-        requires { self.old.pc + 1 < 2 ^ 64 }
         ensures { MakesOnWords (fetch_word (word_image W.NumberKind.kind self.old) i)
             self.old words.old result self.new words.new }
     {
@@ -50,7 +47,6 @@ impl Machine {
 
     // Stores the top, which stays, in word `i` under it.
     pub(crate) fn store_word<W: NumberKind + Copy>(&mut self, words: &mut [W], i: usize) -> Step
-        requires { self.old.pc + 1 < 2 ^ 64 }
         ensures { MakesOnWords (store_word (word_image W.NumberKind.kind self.old) i)
             self.old words.old result self.new words.new }
     {
@@ -61,13 +57,11 @@ impl Machine {
         let mut stack = Stack::new(words, self.height);
         let word = stack.get(top, W::literal(0));
         stack.put(i, word);
-        self.pc += 1;
         Step::Running
     }
 
     // Pushes a slot of the frame.
     pub(crate) fn get_local<W: NumberKind + Copy>(&mut self, words: &mut [W], slot: usize) -> Step
-        requires { self.old.pc + 1 < 2 ^ 64 }
         ensures { MakesOnWords (execute (word_image W.NumberKind.kind self.old) (GetL slot) 0)
             self.old words.old result self.new words.new }
     {
@@ -79,7 +73,6 @@ impl Machine {
 
     // Stores the top, which stays, in a slot of the frame.
     pub(crate) fn set_local<W: NumberKind + Copy>(&mut self, words: &mut [W], slot: usize) -> Step
-        requires { self.old.pc + 1 < 2 ^ 64 }
         ensures { MakesOnWords (execute (word_image W.NumberKind.kind self.old) (SetL slot) 0)
             self.old words.old result self.new words.new }
     {
@@ -107,16 +100,14 @@ impl Machine {
 
     // Puts a word in the place of the two topmost ones.
     pub(crate) fn replace_two<W: NumberKind + Copy>(&mut self, words: &mut [W], word: W)
-        requires next { self.old.pc + 1 < 2 ^ 64 }
-        requires two { 2 ≤ self.old.height }
+        requires { 2 ≤ self.old.height }
         ensures words { words.new ≡ slice_set words.old (self.old.height - 2) word }
         ensures machine { MovedTo self.old self.new
-            (suc (self.old.height - 2)) (suc self.old.pc) }
+            (suc (self.old.height - 2)) }
     {
         let mut stack = Stack::new(words, self.height);
         stack.put(self.height - 2, word);
         self.height -= 1;
-        self.pc += 1;
     }
 
     // Puts what `f` makes of the two topmost words in their place.
@@ -125,8 +116,7 @@ impl Machine {
         words: &mut [W],
         f: F,
     ) -> Step
-        requires next { self.old.pc + 1 < 2 ^ 64 }
-        requires callable { F.IsAlwaysCallable f }
+        requires { F.IsAlwaysCallable f }
         ensures { (made : W → W → W)
             → ((x y z : W) → F.post f x y z → z ≡ made x y)
             → MakesOnWords (combine (word_image W.NumberKind.kind self.old) made)
@@ -142,7 +132,6 @@ impl Machine {
 
     // Takes the top off.
     pub(crate) fn drop_word<W: NumberKind>(&mut self) -> Step
-        requires { self.old.pc + 1 < 2 ^ 64 }
         ensures { MakesAlone (execute (word_image W.NumberKind.kind self.old) Pop 0)
             self.old result self.new }
     {
@@ -150,7 +139,6 @@ impl Machine {
             return Step::Undefined;
         }
         self.height -= 1;
-        self.pc += 1;
         Step::Running
     }
 
@@ -160,7 +148,6 @@ impl Machine {
         words: &mut [W],
         target: usize,
     ) -> Step
-        requires { self.old.pc + 1 < 2 ^ 64 }
         ensures { MakesOnWords (execute (word_image W.NumberKind.kind self.old) (Jz target) 0)
             self.old words.old result self.new words.new }
     {
@@ -170,7 +157,9 @@ impl Machine {
         let mut stack = Stack::new(words, self.height);
         let test = stack.pop(W::literal(0));
         self.height = stack.height();
-        self.pc = if test.is_zero() { target } else { self.pc + 1 };
+        if test.is_zero() {
+            self.pc = target;
+        }
         Step::Running
     }
 }
