@@ -3,6 +3,7 @@ use Rattle.std.specs.Prelude.{◌≡◌, ℕ, zero, suc, ◌+◌, ◌-◌, Bool,
 use Rattle.code.specs.declared.instruction.FunctionEntry.{FunctionEntry}
 use Rattle.kinds.specs.Kinds.{Kind}
 use Rattle.script.specs.declared.ending.Ending.{Ending}
+use Rattle.machine.specs.declared.outcome.Run.{Run}
 use Rattle.machine.specs.declared.outcome.Step.{Step}
 use Rattle.machine.specs.declared.outcome.Step.TheVariants.{Running, Over, Undefined}
 use Rattle.machine.specs.declared.state.Machine.{Machine}
@@ -31,13 +32,13 @@ pub record Makes {W : Type 0} (instruction : MachineState W → Progress W) (bef
   pub depth : after.depth ≡ before.depth
   pub globals : after.globals ≡ before.globals
 
--- The machine after an answer, with the program counter moved back where it does not go on.
+-- The program counter moves on before an instruction, and back where the machine does not go on.
 abbrev pub moved_back : Step → ℕ → Machine → Machine
 moved_back Running pc m = m
 moved_back (Over end) pc m = record m { pc = pc }
 moved_back Undefined pc m = record m { pc = pc }
 
--- The same of a machine whose program counter was moved on before, and is moved back after.
+-- The same of a machine whose program counter has moved on, from any pc, and is yet to move back.
 abbrev pub MakesMoved :
     {W : Type 0} → (MachineState W → Progress W) → Machine → List W → List W → Step → Machine → List W → List W → Type 0
 MakesMoved instruction before words bays answer after words' bays' =
@@ -57,17 +58,6 @@ MakesAlone {W = W} instruction before answer after =
 -- What an instruction that concerns no bay and no code runs on: the kind and the machine's own limits.
 abbrev pub word_image : {W : Type 0} → Kind W → Machine → Image W
 word_image kind m = image_of kind (λ _. false) [] [] m
-
--- Only the height of a machine has changed.
-pub record MovedTo (before after : Machine) (h : ℕ) : Type 0 where
-  pub height : after.height ≡ h
-  pub pc : after.pc ≡ before.pc
-  pub base : after.base ≡ before.base
-  pub fuel : after.fuel ≡ before.fuel
-  pub globals : after.globals ≡ before.globals
-  pub depth : after.depth ≡ before.depth
-  pub calls : after.calls ≡ before.calls
-  pub frames : after.frames ≡ before.frames
 
 -- How a call ends a run, if it does: no more calls may be open, which is tested first, or there is no fuel.
 abbrev pub refused_by : Bool → ℕ → Option Ending
@@ -96,6 +86,10 @@ pub record Ran (W : Type 0) : Type 0 where
   pub outcome : Step
   pub made : ℕ
   pub state : MachineState W
+
+-- What the code's run tells, with the state that it leaves.
+abbrev pub run_leaving : {W : Type 0} → Run → MachineState W → Ran W
+run_leaving told after = record { outcome = told.outcome; made = told.made; state = after }
 
 -- A run of at most so many steps: it leaves the state after those it made. So where it meets an undefined step it stays
 -- where that stands.

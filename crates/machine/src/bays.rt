@@ -1,5 +1,5 @@
 // Instructions on bays.
-ghost use Rattle.std.specs.Prelude.{◌≡◌, ◌+◌, ◌^◌, ◌<◌, []};
+ghost use Rattle.std.specs.Prelude.{◌≡◌, []};
 ghost use Rattle.code.specs.declared.instruction.Operation.TheVariants.{BayR, BayW};
 ghost use Rattle.machine.specs.Machine.{execute, image_of};
 ghost use Rattle.machine.specs.Steps.{MakesMoved};
@@ -8,7 +8,7 @@ use crate::outcome::Step;
 use crate::state::Machine;
 use kinds::NumberKind;
 use racks::Rack;
-use script::{Ending, RunEnd};
+use script::Ending;
 use stack::Stack;
 
 impl Machine {
@@ -31,16 +31,10 @@ impl Machine {
         let mut stack = Stack::new(words, self.height);
         let named = stack.get(top, <R::Word as NumberKind>::literal(0));
         let Some(slot) = named.slot() else {
-            return Step::Over(RunEnd {
-                ending: Ending::NoSuchBay,
-                place,
-            });
+            return Step::over(Ending::NoSuchBay, place);
         };
         let Some(word) = rack.read(slot) else {
-            return Step::Over(RunEnd {
-                ending: Ending::NoSuchBay,
-                place,
-            });
+            return Step::over(Ending::NoSuchBay, place);
         };
         stack.put(top, word);
         Step::Running
@@ -65,16 +59,10 @@ impl Machine {
         }
         let (named, word) = self.operands(words);
         let Some(slot) = named.slot() else {
-            return Step::Over(RunEnd {
-                ending: Ending::NoSuchBay,
-                place,
-            });
+            return Step::over(Ending::NoSuchBay, place);
         };
         if let Err(fault) = rack.write(slot, word) {
-            return Step::Over(RunEnd {
-                ending: Ending::from(fault),
-                place,
-            });
+            return Step::over(Ending::from(fault), place);
         }
         self.replace_two(words, word);
         Step::Running

@@ -1,10 +1,9 @@
 // Instructions on fuel, calls and the program counter.
-ghost use Rattle.std.specs.Prelude.{◌≡◌, ◌+◌, ◌-◌, ◌^◌, ◌<◌, ◌≤◌, false, [], Some, slice_index_or, slice_set};
+ghost use Rattle.std.specs.Prelude.{◌≡◌, ◌<◌, false, [], Some, slice_set};
 ghost use Rattle.std.specs.List.{slice_get};
-ghost use Rattle.kinds.specs.Words.{zero_word};
 ghost use Rattle.code.specs.declared.instruction.Operation.TheVariants.{Jmp, Tick, Call, Ret, Halt};
 ghost use Rattle.machine.specs.Machine.{execute, image_of};
-ghost use Rattle.machine.specs.Steps.{MakesOnWords, MakesAlone, MovedTo, call_refused, word_image};
+ghost use Rattle.machine.specs.Steps.{MakesOnWords, MakesAlone, call_refused, word_image};
 
 use crate::outcome::Step;
 use crate::state::{Frame, Frames, Machine};
@@ -45,10 +44,7 @@ impl Machine {
             self.old result self.new }
     {
         if self.fuel == 0 {
-            return Step::Over(RunEnd {
-                ending: Ending::NoFuel,
-                place,
-            });
+            return Step::over(Ending::NoFuel, place);
         }
         self.fuel -= 1;
         Step::Running
@@ -99,20 +95,6 @@ impl Machine {
         Step::Running
     }
 
-    // Cuts the stack to the frame's start and puts the result there.
-    fn cut_frame<W: NumberKind + Copy>(&mut self, words: &mut [W])
-        requires { self.old.base < self.old.height }
-        ensures words { words.new ≡ slice_set words.old self.old.base
-            (slice_index_or words.old (self.old.height - 1) (zero_word W.NumberKind.kind)) }
-        ensures machine { MovedTo self.old self.new
-            (self.old.base + 1) }
-    {
-        let mut stack = Stack::new(words, self.height);
-        let result = stack.pop(W::literal(0));
-        stack.put(self.base, result);
-        self.height = self.base + 1;
-    }
-
     // Returns to the caller: the result takes the place of the frame.
     pub(crate) fn leave<W: NumberKind + Copy>(&mut self, words: &mut [W]) -> Step
         ensures { MakesOnWords (execute (word_image W.NumberKind.kind self.old) Ret 0)
@@ -125,7 +107,8 @@ impl Machine {
             return Step::Undefined;
         }
         let caller = self.frames.at(self.calls - 1);
-        self.cut_frame(words);
+        self.copy_top(words, self.base);
+        self.height = self.base + 1;
         self.calls -= 1;
         self.base = caller.base;
         self.pc = caller.return_to;
@@ -140,13 +123,8 @@ impl Machine {
         if self.globals >= self.height {
             return Step::Undefined;
         }
-        let mut stack = Stack::new(words, self.height);
-        let answer = stack.pop(W::literal(0));
-        stack.put(self.globals, answer);
-        self.height = stack.height();
-        Step::Over(RunEnd {
-            ending: Ending::Done,
-            place: 0,
-        })
+        self.copy_top(words, self.globals);
+        self.height -= 1;
+        Step::over(Ending::Done, 0)
     }
 }

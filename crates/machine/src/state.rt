@@ -8,7 +8,7 @@ pub struct Frame {
     pub base: usize,
 }
 
-// The records of the open calls, the oldest first; the others are free.
+// The records of the open calls, the oldest first; the others are free. Fixed memory, since the machine has no heap.
 #[derive(Clone, Copy)]
 pub struct Frames {
     pub records: [Frame; 63],

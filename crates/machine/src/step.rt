@@ -1,7 +1,7 @@
 // Steps and runs of the machine.
 ghost use Rattle.std.specs.Prelude.{◌≡◌, ◌+◌, ◌^◌, ◌<◌, List};
 ghost use Rattle.machine.specs.Machine.{execute, step, image_of, state_of};
-ghost use Rattle.machine.specs.Steps.{Makes, MakesMoved, run_at_most, InPieces};
+ghost use Rattle.machine.specs.Steps.{Makes, MakesMoved, run_leaving, run_at_most, InPieces};
 
 use crate::outcome::{Run, Step};
 use crate::state::Machine;
@@ -92,13 +92,10 @@ impl Machine {
         code: Code<'_>,
         steps: u32,
     ) -> Run
-        ensures ran { record {
-          outcome = result.outcome;
-          made = result.made;
-          state = state_of self.new words.new (R.Rack.bays rack.new);
-        }
-            ≡ run_at_most (image_of R.Word.NumberKind.kind (R.Rack.holds rack.old)
-            code.entry.instructions.now code.entry.entries.now self.old) steps
+        ensures ran { run_leaving result (state_of self.new words.new (R.Rack.bays rack.new))
+            ≡ run_at_most
+            (image_of R.Word.NumberKind.kind (R.Rack.holds rack.old) code.entry.instructions.now
+            code.entry.entries.now self.old) steps
             (state_of self.old words.old (R.Rack.bays rack.old)) }
         ensures depth { self.new.depth ≡ self.old.depth }
         ensures globals { self.new.globals ≡ self.old.globals }

@@ -2,7 +2,7 @@ use crate::outcome::{Run, Step};
 use crate::state::Machine;
 use code::instruction::{Code, FunctionEntry, Instruction, Operation};
 use racks::{BayTable, OccupancyRack, Rack, RailRack};
-use script::{Ending, RunEnd};
+use script::Ending;
 
 fn at(place: usize, operation: Operation) -> Instruction {
     Instruction { operation, place }
@@ -46,7 +46,7 @@ const NEXT: FunctionEntry = FunctionEntry {
 
 fn over(ending: Ending, place: usize, made: u32) -> Run {
     Run {
-        outcome: Step::Over(RunEnd { ending, place }),
+        outcome: Step::over(ending, place),
         made,
     }
 }

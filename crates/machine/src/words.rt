@@ -1,9 +1,9 @@
 // Instructions on the words of the stack.
-ghost use Rattle.std.specs.Prelude.{◌≡◌, suc, ◌+◌, ◌-◌, ◌^◌, ◌<◌, ◌≤◌, slice_index_or, slice_set};
+ghost use Rattle.std.specs.Prelude.{◌≡◌, suc, ◌-◌, ◌≤◌, slice_index_or, slice_set};
 ghost use Rattle.kinds.specs.Words.{zero_word, truth_word};
 ghost use Rattle.code.specs.declared.instruction.Operation.TheVariants.{GetL, SetL, Pop, Jz};
 ghost use Rattle.machine.specs.Machine.{execute, push, fetch_word, store_word, combine};
-ghost use Rattle.machine.specs.Steps.{MakesOnWords, MakesAlone, MovedTo, word_image};
+ghost use Rattle.machine.specs.Steps.{MakesOnWords, MakesAlone, word_image};
 
 use crate::outcome::Step;
 use crate::state::Machine;
@@ -45,6 +45,16 @@ impl Machine {
         self.push(words, word)
     }
 
+    // Copies the top into word `i`.
+    pub(crate) fn copy_top<W: NumberKind + Copy>(&self, words: &mut [W], i: usize)
+        ensures { words.new ≡ slice_set words.old i
+            (slice_index_or words.old (self.now.height - 1) (zero_word W.NumberKind.kind)) }
+    {
+        let mut stack = Stack::new(words, self.height);
+        let top = stack.pop(W::literal(0));
+        stack.put(i, top);
+    }
+
     // Stores the top, which stays, in word `i` under it.
     pub(crate) fn store_word<W: NumberKind + Copy>(&mut self, words: &mut [W], i: usize) -> Step
         ensures { MakesOnWords (store_word (word_image W.NumberKind.kind self.old) i)
@@ -54,9 +64,7 @@ impl Machine {
         if i >= top {
             return Step::Undefined;
         }
-        let mut stack = Stack::new(words, self.height);
-        let word = stack.get(top, W::literal(0));
-        stack.put(i, word);
+        self.copy_top(words, i);
         Step::Running
     }
 
@@ -102,8 +110,7 @@ impl Machine {
     pub(crate) fn replace_two<W: NumberKind + Copy>(&mut self, words: &mut [W], word: W)
         requires { 2 ≤ self.old.height }
         ensures words { words.new ≡ slice_set words.old (self.old.height - 2) word }
-        ensures machine { MovedTo self.old self.new
-            (suc (self.old.height - 2)) }
+        ensures machine { self.new ≡ record self.old { height = self.old.height - 1 } }
     {
         let mut stack = Stack::new(words, self.height);
         stack.put(self.height - 2, word);

@@ -24,4 +24,3 @@ returns-in-Over-clause-makes g c =
     (fetched image (state_of m c.args.words.now bays) _ _ _ c.get.ensures.lookup c.copied.ensures c.in-Some.is)
     (goes_back c.execute-step.result m.pc c.execute-step.new.self c.in-Over.is) (c.execute-step.ensures.makes c.args.code.instructions.now m.pc refl) in
     record { tells = makes.tells; leaves = makes.leaves; depth = makes.depth; globals = makes.globals }
-
