@@ -1,6 +1,5 @@
 -- What a run with a budget tells of the run of single steps.
-use Rattle.std.proofs.Common.{◌≡◌, ℕ, zero, suc, ◌<◌, ◌≤◌, ◌⊎◌, refl, sym, ap, subst, ◌∙◌, inl, inr, arith}
-use Rattle.script.specs.declared.ending.RunEnd.{RunEnd}
+use Rattle.std.proofs.Common.{◌≡◌, ℕ, zero, suc, ◌<◌, refl, sym, ap, subst, ◌∙◌, arith}
 use Rattle.machine.specs.declared.outcome.Step.{Step}
 use Rattle.machine.specs.declared.outcome.Step.TheVariants.{Running, Over, Undefined}
 use Rattle.machine.specs.Machine.{Image, MachineState, Progress, running, over, undefined, step, proceed, run}

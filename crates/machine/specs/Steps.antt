@@ -1,6 +1,5 @@
 -- What the code's step and run tell and leave, by the definition's progress.
-use Rattle.std.specs.Prelude.{◌≡◌, ℕ, zero, suc, ◌+◌, ◌-◌, Bool, true, false, List, [], Some, None, Option, nat_lt}
-use Rattle.code.specs.declared.instruction.FunctionEntry.{FunctionEntry}
+use Rattle.std.specs.Prelude.{◌≡◌, ℕ, zero, suc, ◌+◌, Bool, true, false, List, [], Some, None, Option, nat_lt}
 use Rattle.kinds.specs.Kinds.{Kind}
 use Rattle.script.specs.declared.ending.Ending.{Ending}
 use Rattle.machine.specs.declared.outcome.Run.{Run}
