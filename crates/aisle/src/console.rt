@@ -2,9 +2,8 @@
 use crate::listing::print_code;
 use crate::wording::{Ended, Explained};
 use cell::{Answer, Call, Cell, State};
-use machine::state::RunEnd;
 use racks::{BayTable, OccupancyRack, Rack, RailRack};
-use script::{Ending, Record, Refusal};
+use script::{Ending, Limits, Record, Refusal, RunEnd};
 use std::alloc::{AllocError, Global};
 use std::{fmt, io};
 use texts::job::{CallLine, JobText, RackChoice};
@@ -16,7 +15,7 @@ fn call_of(records: &[Record], line: CallLine) -> Call<'_> {
             None => Call::Load(&[]),
         },
         CallLine::Compile => Call::Compile,
-        CallLine::Arm { fuel, depth } => Call::Arm { fuel, depth },
+        CallLine::Arm { fuel, depth } => Call::Arm(Limits { fuel, depth }),
         CallLine::Run(steps) => Call::Run(steps),
         CallLine::Stop => Call::Stop,
     }
@@ -49,7 +48,7 @@ fn print_answer(rt: &HostRuntime, name: &str, answer: Result<Answer, Refusal>) -
     match answer {
         Ok(Answer::Taken) => println!(rt; "{name}: taken"),
         Ok(Answer::Paused) => println!(rt; "{name}: paused"),
-        Ok(Answer::Ended(ending, place)) => {
+        Ok(Answer::Ended(RunEnd { ending, place })) => {
             println!(rt; "{name}: ending {}, place {place}", ending.number())?;
             eprintln!(rt; "{}", Ended(ending, place))
         }

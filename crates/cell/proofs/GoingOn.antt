@@ -1,21 +1,17 @@
 -- A run of the machine in the code is the call of the definition.
-use Rattle.std.proofs.Common.{◌≡◌, ℕ, ◌<◌, ◌≤◌, Bool, true, false, leb, length, Ok, Err, Result, sym, refl, ap, ◌∙◌, subst, le-leb}
+use Rattle.std.proofs.Common.{◌≡◌, ℕ, ◌<◌, ◌≤◌, Bool, true, false, leb, length, Ok, Err, Result, sym, refl, ap, ◌∙◌, le-leb}
 use borrow.Author.Tests.{lt-leb}
 use Rattle.kinds.specs.Kinds.{Kind}
 use Rattle.script.specs.declared.refusal.Refusal.{Refusal}
 use Rattle.script.specs.declared.refusal.Refusal.TheVariants.{TooFewWords}
 use Rattle.names.specs.Passes.{outcome as provided}
-use Rattle.machine.specs.declared.outcome.Step.{Step}
-use Rattle.machine.specs.Machine.{Image, MachineState}
-use Rattle.machine.specs.Budget.{Ran}
-use Rattle.machine.specs.Steps.{Ran as RanInCode}
+use Rattle.machine.specs.Machine.{Image}
+use Rattle.machine.specs.Steps.{Ran, run_at_most}
 use Rattle.cell.specs.declared.calls.State.TheVariants.{Running}
 use Rattle.cell.specs.declared.calls.Call.TheVariants.{Run}
-use Rattle.cell.specs.Endings.{end_of}
 use Rattle.cell.specs.Outcomes.{World, Effect, effect, answer_of, world_after, machine_in, image_in, words_wanted}
-use Rattle.cell.specs.Outcomes.{run_rules, ran_to, ran_by, run_answer}
+use Rattle.cell.specs.Outcomes.{run_rules, ran_to, ran_by}
 use Rattle.cell.specs.Promises.{Made}
-use Rattle.cell.proofs.Budgeted.{ran-is}
 
 module _ {W : Type 0} (kind : Kind W) (holds : W → Bool) (w : World W) (steps : ℕ)
     (is : w.cell.state ≡ Running) where
@@ -45,20 +41,18 @@ module _ {W : Type 0} (kind : Kind W) (holds : W → Bool) (w : World W) (steps 
       }
 
   pub goes_on :
-      (I : Image W) (outcome : Step) (made : ℕ) (after : MachineState W) → wanted ≤ lent
+      (I : Image W) (r : Ran W) → wanted ≤ lent
       → I ≡ image_in kind holds w.cell.registers.depth w.cell.registers.globals w.cell
-      → RanInCode I steps (machine_in w) outcome made after
-      → Made kind holds w (Run steps) (Ok (run_answer (end_of outcome)))
-      (ran_to kind holds w (record { made = made; state = after; end = end_of outcome })).world
-  goes_on I outcome made after l same r =
-      let e = effect_is true (le-leb wanted lent l) in
-      let ran = ran-is _ steps (machine_in w) outcome made after
-      (subst (λ (J : Image W). RanInCode J steps (machine_in w) outcome made after) same r) in
+      → r ≡ run_at_most I steps (machine_in w)
+      → Made kind holds w (Run steps) (Ok (ran_to kind holds w r).answer) (ran_to kind holds w r).world
+  goes_on I r l same e =
+      let taken = effect_is true (le-leb wanted lent l) in
+      let ran = e ∙ ap (λ (J : Image W). run_at_most J steps (machine_in w)) same in
       record {
         answers_so =
             ap (λ (x : Ran W). Ok (ran_to kind holds w x).answer) ran
-            ∙ sym (ap (λ (x : Result (Effect W) Refusal). answer_of x) e);
+            ∙ sym (ap (λ (x : Result (Effect W) Refusal). answer_of x) taken);
         leaves =
             ap (λ (x : Ran W). (ran_to kind holds w x).world) ran
-            ∙ sym (ap (λ (x : Result (Effect W) Refusal). world_after w x) e);
+            ∙ sym (ap (λ (x : Result (Effect W) Refusal). world_after w x) taken);
       }

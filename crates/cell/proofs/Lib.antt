@@ -5,5 +5,4 @@ pub mod ArmAndRun
 pub mod CallByCall
 pub mod Keeping
 pub mod Lists
-pub mod Budgeted
 pub mod GoingOn

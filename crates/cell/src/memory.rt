@@ -3,8 +3,8 @@ ghost use Rattle.std.specs.Prelude.{◌≡◌, ◌≤◌, true, vec_capacity};
 ghost use Rattle.cell.specs.Accepted.{accepted_in};
 
 use crate::calls::State;
-use machine::state::{Machine, RunEnd};
-use script::Record;
+use machine::state::Machine;
+use script::{Record, RunEnd};
 use translator::Translation;
 
 // Its memory is reserved once, so that no later call can fail for want of it.

@@ -6,7 +6,7 @@ ghost use Rattle.cell.specs.Showing.{shown};
 use crate::calls::State;
 use crate::memory::Cell;
 use code::instruction::Instruction;
-use machine::state::RunEnd;
+use script::RunEnd;
 
 impl Cell {
     pub fn state(&self) -> State

@@ -1,7 +1,8 @@
 -- The run of the machine, as the call of the definition.
 use Rattle.std.proofs.Common.{◌≤◌, reverse, length, take, Ok, Option, ap, ◌∙◌, arith}
-use Rattle.machine.specs.declared.state.RunEnd.{RunEnd}
+use Rattle.script.specs.declared.ending.RunEnd.{RunEnd}
 use Rattle.machine.specs.Machine.{state_of, image_of}
+use Rattle.machine.specs.Steps.{run_leaving}
 use Rattle.cell.specs.declared.calls.Answer.{Answer}
 use Rattle.cell.specs.Outcomes.{run_answer, run_state, with_machine, words_wanted}
 use Rattle.cell.specs.Showing.{shown, world_in}
@@ -19,14 +20,13 @@ returns g c =
     let enough : words_wanted cell.machine.depth (shown cell) ≤ length c.args.words.now = omega arith in
     let made =
     goes_on kind holds w c.args.steps c.requires
-    (image_of kind holds c.code-code.result.now c.entries-entries.result.now cell.machine)
-    c.run-run.result.outcome c.run-run.result.made
-    (state_of machine c.run-run.new.words (g.R.Rack.bays c.run-run.new.rack)) enough
+    (image_of kind holds c.code.result.now c.entries.result.now cell.machine)
+    (run_leaving c.run-run.result (state_of machine c.run-run.new.words (g.R.Rack.bays c.run-run.new.rack))) enough
     (λ t. record {
       kind = kind;
       holds = holds;
-      code = c.code-code.ensures t;
-      entries = c.entries-entries.ensures t;
+      code = c.code.ensures t;
+      entries = c.entries.ensures t;
       depth = cell.machine.depth;
       globals = cell.machine.globals;
     })
