@@ -32,8 +32,7 @@ impl Cell {
             return Err(Refusal::TooFewWords(wanted));
         }
         write_literals(self.translation.globals(), words);
-        let globals = self.translation.globals().len();
-        self.machine = Machine::new(globals, limits.depth as usize, limits.fuel);
+        self.machine = Machine::new(self.globals(), limits.depth as usize, limits.fuel);
         self.fuel = limits.fuel;
         self.steps = 0;
         self.end = None;
@@ -62,7 +61,8 @@ impl Cell {
     }
 }
 
-// Writes the literals of the numbers into the first words.
+// Writes the literals of the numbers into the first words. By an index, since a proof knows nothing of what was written
+// through `iter_mut` and `zip`.
 fn write_literals<W: NumberKind + Copy>(numbers: &[i32], words: &mut [W])
     requires { length numbers.now ≤ length words.old }
     ensures { words.new ≡ with_literals W.NumberKind.kind numbers.now words.old }

@@ -26,19 +26,13 @@ fn end_of(outcome: Step) -> Option<RunEnd>
 fn answer_to(end: Option<RunEnd>) -> Answer
     ensures { result ≡ run_answer end }
 {
-    match end {
-        Some(end) => Answer::Ended(end),
-        None => Answer::Paused,
-    }
+    end.map_or(Answer::Paused, Answer::Ended)
 }
 
 fn state_after(end: Option<RunEnd>) -> State
     ensures { result ≡ run_state end }
 {
-    match end {
-        Some(_) => State::Over,
-        None => State::Running,
-    }
+    end.map_or(State::Running, |_| State::Over)
 }
 
 impl Cell {
