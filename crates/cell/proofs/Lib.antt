@@ -1,8 +1,6 @@
-pub mod Accepting
 pub mod Literals
 pub mod Standing
 pub mod ArmAndRun
 pub mod CallByCall
 pub mod Keeping
 pub mod Lists
-pub mod GoingOn

@@ -37,10 +37,12 @@ fn is_refused(heap: Global, calls: usize, call: Call<'_>) -> Result<bool, AllocE
     let lent = words;
     let bay = rack.read(0);
     let answer = cell.take(&mut words, &mut rack, call);
-    Ok(answer == Err(Refusal::WrongState)
-        && cell.state() == state
-        && words == lent
-        && rack.read(0) == bay)
+    Ok(
+        answer == Err(Refusal::WrongState)
+            && cell.state() == state
+            && words == lent
+            && rack.read(0) == bay,
+    )
 }
 
 // Which of load, compile, arm, run and stop are refused there.
@@ -100,7 +102,10 @@ fn refused_arms(rt: HostRuntime) -> Result<(), AllocError> {
     let deep = Limits { fuel: 8, depth: 64 };
     assert_eq!(rt; cell.arm(&mut words, much), Err(Refusal::FuelOrDepth));
     assert_eq!(rt; cell.arm(&mut words, deep), Err(Refusal::FuelOrDepth));
-    assert_eq!(rt; cell.arm(&mut words[..6], LIMITS), Err(Refusal::TooFewWords(7)));
+    assert_eq!(rt;
+        cell.arm(&mut words[..6], LIMITS),
+        Err(Refusal::TooFewWords(7))
+    );
     assert_eq!(rt; (cell.state(), words), (State::Coded, [9; 7]));
     Ok(())
 }
