@@ -1,4 +1,5 @@
-// Steps and runs of the machine.
+// Steps and runs of the machine. Words and rack stay two parameters: they are lent by two owners, and a struct of both
+// would be built anew at each call.
 ghost use Rattle.std.specs.Prelude.{◌≡◌, ◌+◌, ◌^◌, ◌<◌, List};
 ghost use Rattle.machine.specs.Machine.{execute, step, image_of, state_of};
 ghost use Rattle.machine.specs.Steps.{Makes, MakesMoved, run_leaving, run_at_most, InPieces};
