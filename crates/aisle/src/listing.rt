@@ -4,32 +4,52 @@ use script::Record;
 use std::{fmt, io};
 use translator::Translation;
 
-// An instruction: operation, argument (0 where there is none) and place.
+fn name_of(operation: Operation) -> &'static str {
+    match operation {
+        Operation::Lit(_) => "LIT",
+        Operation::GetL(_) => "GETL",
+        Operation::SetL(_) => "SETL",
+        Operation::GetG(_) => "GETG",
+        Operation::SetG(_) => "SETG",
+        Operation::Add => "ADD",
+        Operation::Sub => "SUB",
+        Operation::Gt => "GT",
+        Operation::Pop => "POP",
+        Operation::Jz(_) => "JZ",
+        Operation::Jmp(_) => "JMP",
+        Operation::Tick => "TICK",
+        Operation::Call(_) => "CALL",
+        Operation::Ret => "RET",
+        Operation::BayR => "BAYR",
+        Operation::BayW => "BAYW",
+        Operation::Halt => "HALT",
+    }
+}
+
+// The argument, 0 where there is none.
+fn argument_of(operation: Operation) -> i128 {
+    match operation {
+        Operation::Lit(number) => i128::from(number),
+        Operation::GetL(index)
+        | Operation::SetL(index)
+        | Operation::GetG(index)
+        | Operation::SetG(index)
+        | Operation::Jz(index)
+        | Operation::Jmp(index)
+        | Operation::Call(index) => index as i128,
+        _ => 0,
+    }
+}
+
 #[derive(Clone, Copy)]
 struct Listed(Instruction);
 
 impl fmt::Display for Listed {
     fn fmt<W: fmt::Write>(&self, f: &mut fmt::Formatter<W>) -> fmt::Result {
-        let place = self.0.place;
-        match self.0.operation {
-            Operation::Lit(n) => write!(f, "LIT {n}, place {place}"),
-            Operation::GetL(k) => write!(f, "GETL {k}, place {place}"),
-            Operation::SetL(k) => write!(f, "SETL {k}, place {place}"),
-            Operation::GetG(k) => write!(f, "GETG {k}, place {place}"),
-            Operation::SetG(k) => write!(f, "SETG {k}, place {place}"),
-            Operation::Add => write!(f, "ADD 0, place {place}"),
-            Operation::Sub => write!(f, "SUB 0, place {place}"),
-            Operation::Gt => write!(f, "GT 0, place {place}"),
-            Operation::Pop => write!(f, "POP 0, place {place}"),
-            Operation::Jz(target) => write!(f, "JZ {target}, place {place}"),
-            Operation::Jmp(target) => write!(f, "JMP {target}, place {place}"),
-            Operation::Tick => write!(f, "TICK 0, place {place}"),
-            Operation::Call(function) => write!(f, "CALL {function}, place {place}"),
-            Operation::Ret => write!(f, "RET 0, place {place}"),
-            Operation::BayR => write!(f, "BAYR 0, place {place}"),
-            Operation::BayW => write!(f, "BAYW 0, place {place}"),
-            Operation::Halt => write!(f, "HALT 0, place {place}"),
-        }
+        let Instruction { operation, place } = self.0;
+        let name = name_of(operation);
+        let argument = argument_of(operation);
+        write!(f, "{name} {argument}, place {place}")
     }
 }
 

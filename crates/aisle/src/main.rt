@@ -4,6 +4,7 @@
 mod console;
 mod listing;
 mod outline;
+mod printing;
 mod walking;
 mod wording;
 
@@ -15,7 +16,8 @@ use script::check_shape;
 use std::env;
 use std::io::{BufRead, BufReader};
 use std::process::ExitCode;
-use texts::job::JobText;
+use texts::LineReader;
+use texts::job::JobReader;
 use texts::table::{TableJob, TableReader};
 use walking::walk_job;
 use wording::print_refusal;
@@ -28,50 +30,41 @@ aisle check: standard input is a node table, three numbers a record; its shape i
 aisle walk: the same, then its code, and a walk over a bay table; bays N, fuel N, depth N and slices N may stand between records
 aisle help: this text";
 
-fn read_job(rt: &HostRuntime) -> anyhow::Result<JobText> {
-    let mut job = JobText::new(rt.alloc());
-    for line in BufReader::new(rt.alloc(), rt.stdin())?.lines(rt.alloc()) {
-        job.take_line(line?.as_str())?;
-    }
-    job.finish()?;
-    Ok(job)
-}
-
-fn read_table(rt: &HostRuntime) -> anyhow::Result<TableJob> {
-    let mut reader = TableReader::new(rt.alloc());
+// Standard input, read line by line.
+fn read_input<R: LineReader>(rt: &HostRuntime, mut reader: R) -> anyhow::Result<R::Text> {
     for line in BufReader::new(rt.alloc(), rt.stdin())?.lines(rt.alloc()) {
         reader.take_line(line?.as_str())?;
     }
     Ok(reader.finish()?)
 }
 
-// Checks a table, and walks it too if that is asked.
-fn table(rt: &HostRuntime, walks: bool) -> anyhow::Result<()> {
-    let job = read_table(rt)?;
-    match check_shape(&job.table) {
-        Ok(()) => {
-            println!(rt; "accepted, records {}", job.table.len())?;
-            rt.print(outline(rt.alloc(), &job.table)?.as_str())?;
-            if walks {
-                list_code(rt, &job.table)?;
-                walk_job(rt, &job)?;
-            }
-            Ok(())
-        }
-        Err(refusal) => print_refusal(rt, refusal),
+// Checks the table that is read, and gives it back where its shape is accepted.
+fn check(rt: &HostRuntime) -> anyhow::Result<Option<TableJob>> {
+    let job = read_input(rt, TableReader::new(rt.alloc()))?;
+    if let Err(refusal) = check_shape(&job.table) {
+        print_refusal(rt, refusal)?;
+        return Ok(None);
     }
+    println!(rt; "accepted, records {}", job.table.len())?;
+    rt.print(outline(rt.alloc(), &job.table)?.as_str())?;
+    Ok(Some(job))
+}
+
+fn check_and_walk(rt: &HostRuntime) -> anyhow::Result<()> {
+    if let Some(job) = check(rt)? {
+        list_code(rt, &job.table)?;
+        walk_job(rt, &job)?;
+    }
+    Ok(())
 }
 
 fn run(rt: &HostRuntime) -> anyhow::Result<()> {
-    let mut arguments = env::args(rt)?;
-    let _ = arguments.next();
-    let Some(word) = arguments.next() else {
-        let job = read_job(rt)?;
-        return perform_job(rt, &job);
+    let Some(word) = env::args(rt)?.nth(1) else {
+        return perform_job(rt, read_input(rt, JobReader::new(rt.alloc()))?);
     };
     match word.as_str() {
-        "check" => table(rt, false),
-        "walk" => table(rt, true),
+        "check" => check(rt).map(|_| ()),
+        "walk" => check_and_walk(rt),
         "help" => Ok(rt.println(HELP)?),
         _ => Err(anyhow!("the argument is check, walk or help, or there is none")),
     }

@@ -3,6 +3,7 @@ use crate::wording::Described;
 use script::Record;
 use script::rows::part_count;
 use std::alloc::{AllocError, Global};
+use std::fmt::Write;
 
 // How deeply the next record is nested, by the parts that the records around it still want.
 #[derive(Drop)]
@@ -23,15 +24,12 @@ impl Nesting {
 
     // The next record takes the place of a part, and its own parts come next.
     pub fn enter(&mut self, record: Record) -> Result<(), AllocError> {
-        if let Some(wanted) = self.wanted.pop() {
-            self.wanted.push(wanted.saturating_sub(1))?;
+        if let Some(wanted) = self.wanted.last_mut() {
+            *wanted = wanted.saturating_sub(1);
         }
         self.wanted.push(part_count(record))?;
-        while let Some(wanted) = self.wanted.pop() {
-            if wanted > 0 {
-                self.wanted.push(wanted)?;
-                return Ok(());
-            }
+        while let Some(0) = self.wanted.last() {
+            let _ = self.wanted.pop();
         }
         Ok(())
     }
@@ -42,13 +40,11 @@ pub fn outline(heap: Global, table: &[Record]) -> Result<String, AllocError> {
     let mut text = String::new(heap);
     let mut nesting = Nesting::new(heap);
     for (index, record) in table.iter().enumerate() {
-        let number = format!(in heap; "{index:>4} ")?;
-        text.push_str(number.as_str())?;
+        write!(text, "{index:>4} ")?;
         for _ in 0..nesting.depth() {
             text.push_str("  ")?;
         }
-        let line = format!(in heap; "{}\n", Described(*record))?;
-        text.push_str(line.as_str())?;
+        writeln!(text, "{}", Described(*record))?;
         nesting.enter(*record)?;
     }
     Ok(text)

@@ -1,35 +1,20 @@
 // Walks a table of accepted shape over a bay table, and prints what the run came to.
-use crate::wording::{Ended, print_refusal};
+use crate::printing::{print_bays, print_list};
+use crate::wording::{Ended, Numbers, print_refusal};
 use names::check::check_table;
-use racks::{BayTable, Rack};
-use script::Refusal;
-use std::alloc::AllocError;
+use racks::BayTable;
+use script::RunEnd;
 use std::io;
-use texts::table::TableJob;
+use texts::table::{Settings, TableJob};
 use walk::{Report, walk};
 
-// The words of a list, each after a blank.
-fn print_words(rt: &HostRuntime, name: &str, words: &[i32]) -> io::Result<()> {
-    print!(rt; "{name}")?;
-    for word in words {
-        print!(rt; " {word}")?;
-    }
-    println!(rt)
-}
-
-fn print_bays(rt: &HostRuntime, bays: &BayTable) -> io::Result<()> {
-    print!(rt; "bays")?;
-    for slot in 0..bays.length() {
-        if let Some(word) = bays.read(slot) {
-            print!(rt; " {word}")?;
-        }
-    }
-    println!(rt)
-}
-
 fn print_report(rt: &HostRuntime, report: Report) -> io::Result<()> {
-    println!(rt; "ending {}, place {}", report.ending.number(), report.place)?;
-    println!(rt; "{}", Ended(report.ending, report.place))?;
+    let end = RunEnd {
+        ending: report.ending,
+        place: report.place,
+    };
+    println!(rt; "{}", Numbers(end))?;
+    println!(rt; "{}", Ended(end))?;
     if let Some(word) = report.answer {
         println!(rt; "answer {word}")?;
     }
@@ -37,25 +22,29 @@ fn print_report(rt: &HostRuntime, report: Report) -> io::Result<()> {
 }
 
 pub fn walk_job(rt: &HostRuntime, job: &TableJob) -> anyhow::Result<()> {
+    let Settings {
+        bays,
+        limits,
+        slices,
+    } = job.settings;
     let heap = rt.alloc();
-    let size = job.settings.slices as usize;
-    let mut names = vec![in heap; 0u16; size]?;
-    let mut words = vec![in heap; 0i32; size]?;
-    let mut bays = BayTable::new(job.settings.bays as usize);
+    let mut names = vec![in heap; 0u16; slices as usize]?;
+    let mut words = vec![in heap; 0i32; slices as usize]?;
+    let mut bays = BayTable::new(bays as usize);
     match walk(
         &job.table,
         &mut names,
         &mut words,
         &mut bays,
-        job.settings.fuel,
-        job.settings.depth,
+        limits.fuel,
+        limits.depth,
     ) {
         Ok(report) => {
             print_report(rt, report)?;
-            if let Ok(summary) = check_table(&job.table) {
-                if let Some(globals) = words.get(0..summary.globals) {
-                    print_words(rt, "globals", globals)?;
-                }
+            if let Ok(summary) = check_table(&job.table)
+                && let Some(globals) = words.get(..summary.globals)
+            {
+                print_list(rt, "globals", globals.iter())?;
             }
             print_bays(rt, &bays)?;
             Ok(())

@@ -1,6 +1,7 @@
-// What is printed of a record, a refusal and an ending, for the technician who drew the table.
+// What is printed of a record, a refusal and an ending, for the technician who drew the table: each in a struct of its
+// own, since its type is of another crate, which does not print.
 use script::rows::{NodeKind, Operator, row_of};
-use script::{Ending, Record, Refusal};
+use script::{Ending, Record, Refusal, RunEnd};
 use std::fmt;
 
 // A record: which node it is, and the fields that have a meaning there.
@@ -99,19 +100,19 @@ impl fmt::Display for Explained {
 }
 
 pub fn print_refusal(rt: &HostRuntime, refusal: Refusal) -> anyhow::Result<()> {
-    println!(rt; "refusal {}, tells {}", refusal.number(), refusal.tells())?;
+    println!(rt; "{}", Numbers(refusal))?;
     println!(rt; "{}", Explained(refusal))?;
     Ok(())
 }
 
 // An ending and its place as a sentence.
 #[derive(Clone, Copy)]
-pub struct Ended(pub Ending, pub usize);
+pub struct Ended(pub RunEnd);
 
 impl fmt::Display for Ended {
     fn fmt<W: fmt::Write>(&self, f: &mut fmt::Formatter<W>) -> fmt::Result {
-        let place = self.1;
-        match self.0 {
+        let RunEnd { ending, place } = self.0;
+        match ending {
             Ending::Done => write!(f, "the program came to its end"),
             Ending::NoFuel => write!(f, "the fuel was spent at record {place}"),
             Ending::TooDeep => write!(
@@ -124,5 +125,22 @@ impl fmt::Display for Ended {
                 "record {place} writes a word that its bay cannot hold"
             ),
         }
+    }
+}
+
+// A refusal or an ending by the numbers that it is known by.
+#[derive(Clone, Copy)]
+pub struct Numbers<T>(pub T);
+
+impl fmt::Display for Numbers<Refusal> {
+    fn fmt<W: fmt::Write>(&self, f: &mut fmt::Formatter<W>) -> fmt::Result {
+        write!(f, "refusal {}, tells {}", self.0.number(), self.0.tells())
+    }
+}
+
+impl fmt::Display for Numbers<RunEnd> {
+    fn fmt<W: fmt::Write>(&self, f: &mut fmt::Formatter<W>) -> fmt::Result {
+        let RunEnd { ending, place } = self.0;
+        write!(f, "ending {}, place {place}", ending.number())
     }
 }

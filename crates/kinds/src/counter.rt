@@ -29,11 +29,7 @@ impl NumberKind for i32 {
     }
 
     fn slot(self) -> Option<usize> {
-        if 0 <= self && self <= 4095 {
-            Some(self as usize)
-        } else {
-            None
-        }
+        usize::try_from(self).ok().filter(|slot| *slot <= 4095)
     }
 }
 

@@ -10,7 +10,7 @@ impl NumberKind for f64 {
 
     // Exact: a float holds every whole number of up to 53 bits.
     fn literal(n: i32) -> f64 {
-        n as f64
+        f64::from(n)
     }
 
     fn sum(self, other: f64) -> f64 {

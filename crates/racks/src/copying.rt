@@ -17,9 +17,7 @@ pub fn copy_bay<R: Rack>(rack: &mut R, from: usize, to: usize) -> Result<(), Bay
     ensures holds { R.Rack.holds rack.new ≡ R.Rack.holds rack.old }
     ensures loan { R.Rack.loan rack.new ≡ R.Rack.loan rack.old }
 {
-    let Some(word) = rack.read(from) else {
-        return Err(BayFault::NoSuchBay);
-    };
+    let word = rack.read(from).ok_or(BayFault::NoSuchBay)?;
     rack.write(to, word)
 }
 

@@ -3,7 +3,7 @@ pub mod methods;
 
 ghost use Rattle.std.specs.Prelude.{◌≤◌};
 
-// 64 bays to a word, the lowest bit first.
+// 64 bays to a word, the lowest bit first. They lie in the rack itself, so that making one cannot fail.
 #[derive(Drop)]
 pub struct OccupancyRack {
     words: [u64; 64],

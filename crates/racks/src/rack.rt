@@ -1,6 +1,7 @@
 // What a rack is to the code above it.
-ghost use Rattle.std.specs.Prelude.{◌≡◌, ◌≤◌, Bool, List, length};
+ghost use Rattle.std.specs.Prelude.{◌≡◌, ◌≤◌, Bool, cond, List, length, Ok, Err, nat_lt};
 ghost use Rattle.std.specs.List.{slice_get};
+ghost use Rattle.racks.specs.declared.rack.BayFault.TheVariants.{NoSuchBay, CannotHold};
 ghost use Rattle.racks.specs.Faults.{ending_of};
 ghost use Rattle.racks.specs.Loans.{Loan};
 ghost use Rattle.racks.specs.Writes.{write_answer, written};
@@ -25,6 +26,19 @@ impl From<BayFault> for Ending {
             BayFault::CannotHold => Ending::CannotHold,
         }
     }
+}
+
+// Why a write is refused, if it is: that there is such a bay is tested first.
+pub(crate) fn check_write(slot: usize, length: usize, holds: bool) -> Result<(), BayFault>
+    ensures { result ≡ cond (nat_lt slot length) (cond holds (Ok tt) (Err CannotHold)) (Err NoSuchBay) }
+{
+    if slot >= length {
+        return Err(BayFault::NoSuchBay);
+    }
+    if !holds {
+        return Err(BayFault::CannotHold);
+    }
+    Ok(())
 }
 
 // A rack is a list of words of one number kind, `bays`, and a yes or no for each word: can a bay

@@ -4,7 +4,7 @@ ghost use Rattle.std.specs.List.{slice_get};
 ghost use Rattle.racks.specs.Loans.{lent};
 ghost use Rattle.racks.specs.Makes.{holds_length};
 
-use crate::rack::{BayFault, Rack};
+use crate::rack::{BayFault, Rack, check_write};
 
 #[derive(Drop)]
 pub struct RailRack<'a> {
@@ -19,18 +19,12 @@ impl<'a> RailRack<'a> {
         RailRack { floats }
     }
 
-    fn bay_count(&self) -> usize
-        ensures value { result ≡ length (take 4096 self.now.floats.now) }
-        ensures bound { result ≤ 4096 }
+    // The bays: what lies behind them is the lender's alone.
+    fn bays(&self) -> &[f64]
+        ensures { result.now ≡ take 4096 self.now.floats.now }
     {
-        self.floats.len().min(4096)
-    }
-
-    fn word_at(&self, slot: usize) -> f64
-        requires { slot < length (take 4096 self.now.floats.now) }
-        ensures { Some result ≡ slice_get (take 4096 self.now.floats.now) slot }
-    {
-        self.floats[slot]
+        let floats: &[f64] = self.floats;
+        &floats[..floats.len().min(4096)]
     }
 
     fn put(&mut self, slot: usize, word: f64)
@@ -61,24 +55,15 @@ impl<'a> Rack for RailRack<'a> {
     ghost loan = { λ r. lent r.floats.ghost_name r.floats.now };
 
     fn length(&self) -> usize {
-        self.bay_count()
+        self.bays().len()
     }
 
     fn read(&self, slot: usize) -> Option<f64> {
-        if slot < self.length() {
-            Some(self.word_at(slot))
-        } else {
-            None
-        }
+        self.bays().get(slot).copied()
     }
 
     fn write(&mut self, slot: usize, word: f64) -> Result<(), BayFault> {
-        if slot >= self.length() {
-            return Err(BayFault::NoSuchBay);
-        }
-        if !in_range(word) {
-            return Err(BayFault::CannotHold);
-        }
+        check_write(slot, self.length(), in_range(word))?;
         self.put(slot, word);
         Ok(())
     }

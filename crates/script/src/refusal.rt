@@ -55,17 +55,16 @@ impl Refusal {
         ensures { result ≡ tells self.now }
     {
         match *self {
-            Refusal::TableSize => 0,
-            Refusal::UnexpectedKind(record) => record,
-            Refusal::FieldOutOfBounds(record) => record,
+            Refusal::UnexpectedKind(record)
+            | Refusal::FieldOutOfBounds(record)
+            | Refusal::LeftOver(record)
+            | Refusal::DeclaredTwice(record)
+            | Refusal::Undeclared(record)
+            | Refusal::ArgumentCount(record) => record,
             Refusal::EndsEarly(count) => count,
-            Refusal::LeftOver(record) => record,
-            Refusal::DeclaredTwice(record) => record,
-            Refusal::Undeclared(record) => record,
-            Refusal::ArgumentCount(record) => record,
-            Refusal::FrameNeed | Refusal::FuelOrDepth => 0,
             Refusal::TooFewWords(wanted) => wanted,
-            Refusal::WrongState => 0,
+            Refusal::TableSize | Refusal::FrameNeed | Refusal::FuelOrDepth | Refusal::WrongState =>
+                0,
         }
     }
 }

@@ -72,9 +72,9 @@ impl Count {
         ensures { result ≡ amount self node }
     {
         match self {
-            Count::Fixed(n) => n as usize,
-            Count::FieldA => node.a as usize,
-            Count::FieldV => if node.v < 0 { 0 } else { node.v as usize },
+            Count::Fixed(n) => usize::from(n),
+            Count::FieldA => usize::from(node.a),
+            Count::FieldV => usize::try_from(node.v).unwrap_or(0),
         }
     }
 }
@@ -92,7 +92,7 @@ impl Bound {
     {
         match self {
             Bound::Any => true,
-            Bound::UpTo(most) => 0 <= value && value <= i32::from(most),
+            Bound::UpTo(most) => (0..=i32::from(most)).contains(&value),
         }
     }
 }
@@ -145,6 +145,7 @@ const TWO_STATEMENTS: Parts = Parts {
     sort: Sort::Statement,
 };
 
+// What a row leaves out has no parts, and fields without a meaning.
 const UNKNOWN: Row = Row {
     node: NodeKind::Unknown,
     sort: Sort::Unknown,
@@ -157,55 +158,40 @@ const UNKNOWN: Row = Row {
 const NUMBER: Row = Row {
     node: NodeKind::Number,
     sort: Sort::Expression,
-    a: BLANK,
     v: Bound::Any,
-    first: NO_PARTS,
-    second: NO_PARTS,
+    ..UNKNOWN
 };
 
 const VARIABLE: Row = Row {
     node: NodeKind::Variable,
     sort: Sort::Expression,
     a: NAME,
-    v: BLANK,
-    first: NO_PARTS,
-    second: NO_PARTS,
+    ..UNKNOWN
 };
 
 const SUM: Row = Row {
     node: NodeKind::TwoPart(Operator::Sum),
     sort: Sort::Expression,
-    a: BLANK,
-    v: BLANK,
     first: TWO_EXPRESSIONS,
-    second: NO_PARTS,
+    ..UNKNOWN
 };
 
 const DIFFERENCE: Row = Row {
     node: NodeKind::TwoPart(Operator::Difference),
-    sort: Sort::Expression,
-    a: BLANK,
-    v: BLANK,
-    first: TWO_EXPRESSIONS,
-    second: NO_PARTS,
+    ..SUM
 };
 
 const GREATER: Row = Row {
     node: NodeKind::TwoPart(Operator::Greater),
-    sort: Sort::Expression,
-    a: BLANK,
-    v: BLANK,
-    first: TWO_EXPRESSIONS,
-    second: NO_PARTS,
+    ..SUM
 };
 
 const ASSIGNMENT: Row = Row {
     node: NodeKind::Assignment,
     sort: Sort::Expression,
     a: NAME,
-    v: BLANK,
     first: ONE_EXPRESSION,
-    second: NO_PARTS,
+    ..UNKNOWN
 };
 
 const CALL: Row = Row {
@@ -217,61 +203,43 @@ const CALL: Row = Row {
         count: Count::FieldV,
         sort: Sort::Expression,
     },
-    second: NO_PARTS,
+    ..UNKNOWN
 };
 
 const BAY_READ: Row = Row {
     node: NodeKind::BayRead,
     sort: Sort::Expression,
-    a: BLANK,
-    v: BLANK,
     first: ONE_EXPRESSION,
-    second: NO_PARTS,
+    ..UNKNOWN
 };
 
 const BAY_WRITE: Row = Row {
     node: NodeKind::BayWrite,
-    sort: Sort::Expression,
-    a: BLANK,
-    v: BLANK,
-    first: TWO_EXPRESSIONS,
-    second: NO_PARTS,
+    ..SUM
 };
 
 const EXPRESSION_STATEMENT: Row = Row {
     node: NodeKind::ExpressionStatement,
     sort: Sort::Statement,
-    a: BLANK,
-    v: BLANK,
     first: ONE_EXPRESSION,
-    second: NO_PARTS,
+    ..UNKNOWN
 };
 
 const IF: Row = Row {
     node: NodeKind::If,
-    sort: Sort::Statement,
-    a: BLANK,
-    v: BLANK,
-    first: ONE_EXPRESSION,
     second: TWO_STATEMENTS,
+    ..EXPRESSION_STATEMENT
 };
 
 const WHILE: Row = Row {
     node: NodeKind::While,
-    sort: Sort::Statement,
-    a: BLANK,
-    v: BLANK,
-    first: ONE_EXPRESSION,
     second: ONE_STATEMENT,
+    ..EXPRESSION_STATEMENT
 };
 
 const RETURN: Row = Row {
     node: NodeKind::Return,
-    sort: Sort::Statement,
-    a: BLANK,
-    v: BLANK,
-    first: ONE_EXPRESSION,
-    second: NO_PARTS,
+    ..EXPRESSION_STATEMENT
 };
 
 const BLOCK: Row = Row {
@@ -294,8 +262,7 @@ const VARIABLE_DECLARATION: Row = Row {
     sort: Sort::Variable,
     a: NAME,
     v: Bound::Any,
-    first: NO_PARTS,
-    second: NO_PARTS,
+    ..UNKNOWN
 };
 
 const FUNCTION: Row = Row {
@@ -314,21 +281,19 @@ const PARAMETER: Row = Row {
     node: NodeKind::Parameter,
     sort: Sort::Parameter,
     a: NAME,
-    v: BLANK,
-    first: NO_PARTS,
-    second: NO_PARTS,
+    ..UNKNOWN
 };
 
 const PROGRAM: Row = Row {
     node: NodeKind::Program,
     sort: Sort::Program,
     a: Bound::UpTo(128),
-    v: BLANK,
     first: Parts {
         count: Count::FieldA,
         sort: Sort::Declaration,
     },
     second: ONE_STATEMENT,
+    ..UNKNOWN
 };
 
 // One row for each kind below 32, the kind as its index.
@@ -372,19 +337,12 @@ pub const ROWS: &[Row; 32] = &[
     UNKNOWN,
 ];
 
-// The row of a kind that the table has.
-fn listed_row(kind: u8) -> Row
-    requires { kind < 32 }
-    ensures { result ≡ slice_index_or rows kind unknown }
-{
-    ROWS[kind as usize]
-}
-
 // The row of any kind; a kind past the table is unknown too.
+#[tactic(auto, unfolding(crate::specs::Rows::row_of))]
 pub fn row_of(kind: u8) -> Row
     ensures { result ≡ row_of kind }
 {
-    if kind < 32 { listed_row(kind) } else { UNKNOWN }
+    ROWS.get(usize::from(kind)).copied().unwrap_or(UNKNOWN)
 }
 
 // How many parts follow a record, by its row.

@@ -57,7 +57,7 @@ fn parts(table: &[Record], want: Sort, count: usize, at: usize) -> Result<usize,
 pub fn check_shape(table: &[Record]) -> Result<(), Refusal>
     ensures { result ≡ shape table.now }
 {
-    if table.len() == 0 || table.len() > LARGEST_TABLE {
+    if table.is_empty() || table.len() > LARGEST_TABLE {
         return Err(Refusal::TableSize);
     }
     let next = part(table, Sort::Program, 0)?;

@@ -33,8 +33,7 @@ impl<'a, T: Copy> Stack<'a, T> {
     pub fn get(&self, i: usize, none: T) -> T
         ensures { result ≡ slice_index_or self.now.words.now i none }
     {
-        let words: &[T] = self.words;
-        if i < words.len() { words[i] } else { none }
+        self.words.get(i).copied().unwrap_or(none)
     }
 
     /// Replaces the word at `i`, where the store has one there.
@@ -43,6 +42,7 @@ impl<'a, T: Copy> Stack<'a, T> {
         ensures words { self.new.words.now ≡ slice_set self.old.words.now i x }
         ensures height { self.new.height ≡ self.old.height }
     {
+        // a slice's get_mut says nothing of what is written through it
         if i < self.words.len() {
             self.words[i] = x;
         }
@@ -52,12 +52,8 @@ impl<'a, T: Copy> Stack<'a, T> {
     pub fn get_above(&self, base: usize, k: usize, none: T) -> T
         ensures { result ≡ slice_index_or self.now.words.now (base + k) none }
     {
-        let words: &[T] = self.words;
-        if base < words.len() && k < words.len() - base {
-            words[base + k]
-        } else {
-            none
-        }
+        // no slice is so long that a sum past the largest index is in it
+        self.get(base.saturating_add(k), none)
     }
 
     /// Replaces the word at `k` above `base`, where the store has one there.
@@ -66,10 +62,7 @@ impl<'a, T: Copy> Stack<'a, T> {
         ensures words { self.new.words.now ≡ slice_set self.old.words.now (base + k) x }
         ensures height { self.new.height ≡ self.old.height }
     {
-        let room = self.words.len();
-        if base < room && k < room - base {
-            self.words[base + k] = x;
-        }
+        self.put(base.saturating_add(k), x)
     }
 
     /// Puts `x` on top, where there is room.
@@ -103,11 +96,7 @@ impl<'a, T: Copy> Stack<'a, T> {
         ensures { result.now ≡ contents self.now }
     {
         let words: &[T] = self.words;
-        if self.height < words.len() {
-            &words[..self.height]
-        } else {
-            words
-        }
+        &words[..self.height.min(words.len())]
     }
 
     /// Drops what lies above `to`.

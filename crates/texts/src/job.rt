@@ -1,267 +1,310 @@
-// Reads a job: a rack, its words, and then one call a line. `#` begins a comment.
-use crate::table::without_comment;
-use script::Record;
-use std::alloc::{AllocError, AllocFailed, Global};
-use std::error::Error;
-use std::fmt;
+// Reads a job: a rack, its words, and then one call a line.
+use crate::error::{TextError, TextProblem, fault};
+use crate::reader::{LineReader, without_comment};
+use script::{Limits, Record};
+use std::alloc::Global;
+use std::str::SplitWhitespace;
+use thiserror::Error;
 
 // Why a text is no job.
-#[derive(Clone, Copy, PartialEq, Eq, Debug)]
+#[derive(Clone, Copy, PartialEq, Eq, Debug, Error)]
 pub enum JobProblem {
     // the first line is no rack
+    #[error("a job begins with rack bays N, rack occupancy N or rack rail W W ..")]
     NoRack,
     // the second line does not say how many words there are
+    #[error("the second line of a job is words N")]
     NoWords,
     // a line that is no call, or a call with other words than it takes
+    #[error("a call is load, compile, arm FUEL DEPTH, run STEPS or stop")]
     NoCall,
     // a number is missing, is none, or does not fit
+    #[error("a number is missing, or does not fit")]
     BadNumber,
     // a record of a table that is loaded is not three numbers in their ranges
+    #[error("a record is kind 0 to 255, a 0 to 65535 and v of 32 bits")]
     BadRecord,
     // the text ends before the second line
+    #[error("a job begins with a rack and its words")]
     TooShort,
 }
 
-#[derive(Drop, Debug)]
-pub enum JobError {
-    Text { line: usize, problem: JobProblem },
-    NoMemory,
+impl TextProblem for JobProblem {
+    const SORT: &'static str = "job";
 }
 
-impl fmt::Display for JobError {
-    fn fmt<W: fmt::Write>(&self, f: &mut fmt::Formatter<W>) -> fmt::Result {
-        match self {
-            JobError::NoMemory => write!(f, "there is not enough memory for the job"),
-            JobError::Text { line, problem } => match problem {
-                JobProblem::NoRack => write!(
-                    f,
-                    "line {line}: a job begins with rack bays N, rack occupancy N or rack rail W W .."
-                ),
-                JobProblem::NoWords => write!(
-                    f,
-                    "line {line}: the second line of a job is words N"
-                ),
-                JobProblem::NoCall => write!(
-                    f,
-                    "line {line}: a call is load, compile, arm FUEL DEPTH, run STEPS or stop"
-                ),
-                JobProblem::BadNumber => write!(
-                    f,
-                    "line {line}: a number is missing, or does not fit"
-                ),
-                JobProblem::BadRecord => write!(
-                    f,
-                    "line {line}: a record is kind 0 to 255, a 0 to 65535 and v of 32 bits"
-                ),
-                JobProblem::TooShort => write!(
-                    f,
-                    "line {line}: a job begins with a rack and its words"
-                ),
-            },
-        }
-    }
-}
+pub type JobError = TextError<JobProblem>;
 
-impl Error for JobError {}
-
-impl From<AllocError> for JobError {
-    fn from(_error: AllocError) -> JobError {
-        JobError::NoMemory
-    }
-}
-
-impl<T: Drop> From<AllocFailed<T>> for JobError {
-    fn from(_error: AllocFailed<T>) -> JobError {
-        JobError::NoMemory
-    }
-}
-
-// Which rack the job runs over; a rail rack's words are kept apart.
-#[derive(Clone, Copy)]
+// Which rack the job runs over: how many bays it has, or the words in a rail rack's bays.
+#[derive(PartialEq, Debug, Drop)]
 pub enum RackChoice {
     Bays(usize),
     Occupancy(usize),
-    Rail,
+    Rail(Vec<f64>),
 }
 
-// A call as it was read; a table is a part of the records read.
-#[derive(Clone, Copy)]
+#[derive(PartialEq, Eq, Debug, Drop)]
 pub enum CallLine {
-    Load { from: usize, to: usize },
+    Load(Vec<Record>),
     Compile,
-    Arm { fuel: u32, depth: u32 },
+    Arm(Limits),
     Run(u32),
     Stop,
 }
 
-// How far the text was read.
-#[derive(Clone, Copy)]
-enum Stage {
-    Rack,
-    Words,
-    Calls,
+// A text that was read.
+#[derive(Drop)]
+pub struct Job {
+    pub rack: RackChoice,
+    // how many words there are
+    pub words: usize,
+    pub calls: Vec<CallLine>,
 }
 
+// What was read so far; `None` where it was not read yet.
 #[derive(Drop)]
-pub struct JobText {
-    pub rack: RackChoice,
-    pub lengths: Vec<f64>,
-    pub words: usize,
-    pub records: Vec<Record>,
-    pub calls: Vec<CallLine>,
-    stage: Stage,
+pub struct JobReader {
+    heap: Global,
+    rack: Option<RackChoice>,
+    words: Option<usize>,
+    calls: Vec<CallLine>,
     line: usize,
 }
 
-fn bad(line: usize, problem: JobProblem) -> JobError {
-    JobError::Text { line, problem }
-}
-
-fn number_in(line: usize, word: Option<&str>) -> Result<u32, JobError> {
-    let Some(word) = word else {
-        return Err(bad(line, JobProblem::BadNumber));
-    };
-    match word.parse::<u32>() {
-        Ok(number) => Ok(number),
-        Err(_) => Err(bad(line, JobProblem::BadNumber)),
-    }
-}
-
-impl JobText {
-    pub fn new(heap: Global) -> JobText {
-        JobText {
-            rack: RackChoice::Rail,
-            lengths: Vec::new(heap),
-            words: 0,
-            records: Vec::new(heap),
+impl JobReader {
+    pub fn new(heap: Global) -> JobReader {
+        JobReader {
+            heap,
+            rack: None,
+            words: None,
             calls: Vec::new(heap),
-            stage: Stage::Rack,
             line: 0,
         }
     }
+}
 
-    // One line of the text; an empty one says nothing.
-    pub fn take_line(&mut self, text: &str) -> Result<(), JobError> {
+impl LineReader for JobReader {
+    type Text = Job;
+
+    type Problem = JobProblem;
+
+    // A line without words says nothing.
+    fn take_line(&mut self, text: &str) -> Result<(), JobError> {
         self.line = self.line.saturating_add(1);
-        let text = without_comment(text);
-        let mut words = text.split_whitespace();
-        let Some(first) = words.next() else {
+        let Some(line) = Line::of(self.line, text) else {
             return Ok(());
         };
-        match self.stage {
-            Stage::Rack => self.take_rack(first, text),
-            Stage::Words => self.take_words(first, text),
-            Stage::Calls => self.take_call(first, text),
-        }
-    }
-
-    fn take_rack(&mut self, first: &str, text: &str) -> Result<(), JobError> {
-        let line = self.line;
-        if first != "rack" {
-            return Err(bad(line, JobProblem::NoRack));
-        }
-        let mut words = text.split_whitespace();
-        let _ = words.next();
-        match words.next() {
-            Some("bays") => self.rack = RackChoice::Bays(number_in(line, words.next())? as usize),
-            Some("occupancy") => self.rack = RackChoice::Occupancy(
-                number_in(line, words.next())? as usize,
-            ),
-            Some("rail") => self.rack = RackChoice::Rail,
-            _ => return Err(bad(line, JobProblem::NoRack)),
-        }
-        for word in words {
-            self.take_length(word)?;
-        }
-        self.stage = Stage::Words;
-        Ok(())
-    }
-
-    // What follows the rack's name: the words of a rail rack, and nothing for the others.
-    fn take_length(&mut self, word: &str) -> Result<(), JobError> {
-        let line = self.line;
-        match self.rack {
-            RackChoice::Rail => match word.parse::<f64>() {
-                Ok(length) => self.lengths.push(length)?,
-                Err(_) => return Err(bad(line, JobProblem::BadNumber)),
-            },
-            _ => return Err(bad(line, JobProblem::NoRack)),
+        if self.rack.is_none() {
+            self.rack = Some(line.rack(self.heap)?);
+        } else if self.words.is_none() {
+            self.words = Some(line.words()?);
+        } else {
+            self.calls.push(line.call(self.heap)?)?;
         }
         Ok(())
     }
 
-    fn take_words(&mut self, first: &str, text: &str) -> Result<(), JobError> {
-        let line = self.line;
-        if first != "words" {
-            return Err(bad(line, JobProblem::NoWords));
-        }
-        let mut words = text.split_whitespace();
-        let _ = words.next();
-        self.words = number_in(line, words.next())? as usize;
-        if words.next().is_some() {
-            return Err(bad(line, JobProblem::NoWords));
-        }
-        self.stage = Stage::Calls;
-        Ok(())
-    }
-
-    fn take_call(&mut self, first: &str, text: &str) -> Result<(), JobError> {
-        let line = self.line;
-        let mut words = text.split_whitespace();
-        let _ = words.next();
-        let call = match first {
-            "load" => return self.take_load(text),
-            "compile" => CallLine::Compile,
-            "arm" => {
-                let fuel = number_in(line, words.next())?;
-                let depth = number_in(line, words.next())?;
-                CallLine::Arm { fuel, depth }
-            }
-            "run" => CallLine::Run(number_in(line, words.next())?),
-            "stop" => CallLine::Stop,
-            _ => return Err(bad(line, JobProblem::NoCall)),
+    fn finish(self) -> Result<Job, JobError> {
+        let (Some(rack), Some(words)) = (self.rack, self.words) else {
+            // an empty text lacks its first line
+            return Err(fault(self.line.max(1), JobProblem::TooShort));
         };
-        if words.next().is_some() {
-            return Err(bad(line, JobProblem::NoCall));
-        }
-        self.calls.push(call)?;
-        Ok(())
-    }
-
-    fn take_load(&mut self, text: &str) -> Result<(), JobError> {
-        let line = self.line;
-        let from = self.records.len();
-        let mut words = text.split_whitespace();
-        let _ = words.next();
-        while let Some(kind) = words.next() {
-            let record = record_of(line, kind, words.next(), words.next())?;
-            self.records.push(record)?;
-        }
-        let to = self.records.len();
-        self.calls.push(CallLine::Load { from, to })?;
-        Ok(())
-    }
-
-    // The whole text was read.
-    pub fn finish(&self) -> Result<(), JobError> {
-        match self.stage {
-            Stage::Calls => Ok(()),
-            _ => Err(bad(self.line, JobProblem::TooShort)),
-        }
+        Ok(Job {
+            rack,
+            words,
+            calls: self.calls,
+        })
     }
 }
 
-fn record_of(
-    line: usize,
-    kind: &str,
-    a: Option<&str>,
-    v: Option<&str>,
-) -> Result<Record, JobError> {
-    let (Some(a), Some(v)) = (a, v) else {
-        return Err(bad(line, JobProblem::BadRecord));
-    };
-    match (kind.parse::<u8>(), a.parse::<u16>(), v.parse::<i32>()) {
-        (Ok(kind), Ok(a), Ok(v)) => Ok(Record { kind, a, v }),
-        _ => Err(bad(line, JobProblem::BadRecord)),
+// A line that has words.
+#[derive(Drop)]
+struct Line<'a> {
+    // counted from 1
+    number: usize,
+    first: &'a str,
+    // those that were not read yet
+    rest: SplitWhitespace<'a>,
+}
+
+impl<'a> Line<'a> {
+    fn of(number: usize, text: &'a str) -> Option<Line<'a>> {
+        let mut rest = without_comment(text).split_whitespace();
+        let first = rest.next()?;
+        Some(Line {
+            number,
+            first,
+            rest,
+        })
+    }
+
+    // The line must end here.
+    fn end(mut self, otherwise: JobProblem) -> Result<(), JobError> {
+        match self.rest.next() {
+            None => Ok(()),
+            Some(_) => Err(fault(self.number, otherwise)),
+        }
+    }
+
+    fn take_number(&mut self) -> Result<u32, JobError> {
+        let number = self.rest.next().and_then(|word| word.parse::<u32>().ok());
+        number.ok_or(fault(self.number, JobProblem::BadNumber))
+    }
+
+    fn rack(mut self, heap: Global) -> Result<RackChoice, JobError> {
+        let rack = match (self.first, self.rest.next()) {
+            ("rack", Some("bays")) => RackChoice::Bays(self.take_number()? as usize),
+            ("rack", Some("occupancy")) => RackChoice::Occupancy(self.take_number()? as usize),
+            ("rack", Some("rail")) => return Ok(RackChoice::Rail(self.lengths(heap)?)),
+            _ => return Err(fault(self.number, JobProblem::NoRack)),
+        };
+        self.end(JobProblem::NoRack)?;
+        Ok(rack)
+    }
+
+    fn lengths(self, heap: Global) -> Result<Vec<f64>, JobError> {
+        let lengths = self.rest.map(|word| {
+            word.parse::<f64>()
+                .map_err(|_| fault(self.number, JobProblem::BadNumber))
+        });
+        lengths.try_collect(heap)
+    }
+
+    fn words(mut self) -> Result<usize, JobError> {
+        if self.first != "words" {
+            return Err(fault(self.number, JobProblem::NoWords));
+        }
+        let words = self.take_number()? as usize;
+        self.end(JobProblem::NoWords)?;
+        Ok(words)
+    }
+
+    fn call(mut self, heap: Global) -> Result<CallLine, JobError> {
+        let call = match self.first {
+            "load" => return Ok(CallLine::Load(self.records(heap)?)),
+            "compile" => CallLine::Compile,
+            "arm" => CallLine::Arm(Limits {
+                fuel: self.take_number()?,
+                depth: self.take_number()?,
+            }),
+            "run" => CallLine::Run(self.take_number()?),
+            "stop" => CallLine::Stop,
+            _ => return Err(fault(self.number, JobProblem::NoCall)),
+        };
+        self.end(JobProblem::NoCall)?;
+        Ok(call)
+    }
+
+    fn records(self, heap: Global) -> Result<Vec<Record>, JobError> {
+        let mut rest = self.rest;
+        let mut records = Vec::new(heap);
+        while let Some(kind) = rest.next() {
+            let record = record_of(kind, rest.next(), rest.next());
+            records.push(record.ok_or(fault(self.number, JobProblem::BadRecord))?)?;
+        }
+        Ok(records)
+    }
+}
+
+fn record_of(kind: &str, a: Option<&str>, v: Option<&str>) -> Option<Record> {
+    Some(Record {
+        kind: kind.parse().ok()?,
+        a: a?.parse().ok()?,
+        v: v?.parse().ok()?,
+    })
+}
+
+#[cfg(test)]
+mod tests {
+    use super::*;
+    use crate::read_text;
+    use std::test::Fail;
+
+    #[test]
+    fn calls_are_read(rt: HostRuntime) -> Result<(), Fail> {
+        let text =
+            "# none yet\n\nrack rail 1 -2.5 # two\n\twords 3\nload 1 0 -7  255 65535 2\nload\ncompile\narm 8 1\nrun 4294967295\nstop";
+        let job = read_text(JobReader::new(rt.alloc()), text)?;
+        let lengths = [1.0, -2.5].to_vec(rt.alloc())?;
+        assert_eq!(rt; job.rack, RackChoice::Rail(lengths));
+        assert_eq!(rt; job.words, 3);
+        let table = [
+            Record {
+                kind: 1,
+                a: 0,
+                v: -7,
+            },
+            Record {
+                kind: 255,
+                a: 65535,
+                v: 2,
+            },
+        ]
+        .to_vec(rt.alloc())?;
+        let limits = Limits { fuel: 8, depth: 1 };
+        let wanted = [
+            CallLine::Load(table),
+            CallLine::Load(Vec::new(rt.alloc())),
+            CallLine::Compile,
+            CallLine::Arm(limits),
+            CallLine::Run(4294967295),
+            CallLine::Stop,
+        ];
+        assert_eq!(rt; job.calls.as_slice(), wanted.as_slice());
+        Ok(())
+    }
+
+    #[test]
+    fn racks_are_read(rt: HostRuntime) -> Result<(), Fail> {
+        let bays = read_text(JobReader::new(rt.alloc()), "rack bays 0\nwords 0")?;
+        assert_eq!(rt; bays.rack, RackChoice::Bays(0));
+        let occupancy = read_text(JobReader::new(rt.alloc()), "rack occupancy 5\nwords 0")?;
+        assert_eq!(rt; occupancy.rack, RackChoice::Occupancy(5));
+        Ok(())
+    }
+
+    #[test]
+    fn bad_text_is_told_by_line(rt: HostRuntime) {
+        for (text, line, problem) in [
+            ("words 3", 1, JobProblem::NoRack),
+            ("# c\nrack", 2, JobProblem::NoRack),
+            ("rack tub 3", 1, JobProblem::NoRack),
+            ("rack bays 3 4", 1, JobProblem::NoRack),
+            ("rack bays", 1, JobProblem::BadNumber),
+            ("\nrack occupancy -1", 2, JobProblem::BadNumber),
+            ("rack rail 1 x", 1, JobProblem::BadNumber),
+            ("rack bays 3\nload", 2, JobProblem::NoWords),
+            ("rack bays 3\nwords 2 3", 2, JobProblem::NoWords),
+            ("rack bays 3\nwords", 2, JobProblem::BadNumber),
+            ("rack bays 3\nwords 2\n\njump", 4, JobProblem::NoCall),
+            ("rack bays 3\nwords 2\nstop now", 3, JobProblem::NoCall),
+            ("rack bays 3\nwords 2\narm 8", 3, JobProblem::BadNumber),
+            (
+                "rack bays 3\nwords 2\nrun 4294967296",
+                3,
+                JobProblem::BadNumber,
+            ),
+            ("rack bays 3\nwords 2\nload 1 0", 3, JobProblem::BadRecord),
+            (
+                "rack bays 3\nwords 2\nload 256 0 0",
+                3,
+                JobProblem::BadRecord,
+            ),
+            (
+                "rack bays 3\nwords 2\nload 1 65536 0",
+                3,
+                JobProblem::BadRecord,
+            ),
+            (
+                "rack bays 3\nwords 2\nload 1 0 2147483648",
+                3,
+                JobProblem::BadRecord,
+            ),
+            ("rack bays 3\n# end", 2, JobProblem::TooShort),
+            ("", 1, JobProblem::TooShort),
+        ] {
+            let found = read_text(JobReader::new(rt.alloc()), text).err();
+            assert_eq!(rt; found, Some(fault(line, problem)), "{text}");
+        }
     }
 }

@@ -5,7 +5,7 @@ ghost use Rattle.racks.specs.Loans.{nothing_lent};
 ghost use Rattle.racks.specs.Makes.{occupancy_bays, holds_bit};
 
 use crate::occupancy::OccupancyRack;
-use crate::rack::{BayFault, Rack};
+use crate::rack::{BayFault, Rack, check_write};
 
 impl OccupancyRack {
     // `n` bays without a mark; a larger `n` counts as 4,096.
@@ -57,7 +57,7 @@ impl OccupancyRack {
 fn is_bit(word: i32) -> bool
     ensures { result ≡ holds_bit word }
 {
-    0 <= word && word <= 1
+    matches!(word, 0 | 1)
 }
 
 impl Rack for OccupancyRack {
@@ -82,12 +82,7 @@ impl Rack for OccupancyRack {
     }
 
     fn write(&mut self, slot: usize, word: i32) -> Result<(), BayFault> {
-        if slot >= self.length() {
-            return Err(BayFault::NoSuchBay);
-        }
-        if !is_bit(word) {
-            return Err(BayFault::CannotHold);
-        }
+        check_write(slot, self.length(), is_bit(word))?;
         self.put(slot, word);
         Ok(())
     }

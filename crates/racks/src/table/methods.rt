@@ -4,7 +4,7 @@ ghost use Rattle.std.specs.List.{slice_get};
 ghost use Rattle.racks.specs.Loans.{nothing_lent};
 ghost use Rattle.racks.specs.Makes.{table_bays};
 
-use crate::rack::{BayFault, Rack};
+use crate::rack::{BayFault, Rack, check_write};
 use crate::table::BayTable;
 
 impl BayTable {
@@ -25,11 +25,10 @@ impl BayTable {
         }
     }
 
-    fn word_at(&self, slot: usize) -> i32
-        requires { slot < length (table_bays self.now) }
-        ensures { Some result ≡ slice_get (table_bays self.now) slot }
+    fn bays(&self) -> &[i32]
+        ensures { result.now ≡ table_bays self.now }
     {
-        self.words[slot]
+        &self.words[..self.count]
     }
 
     fn put(&mut self, slot: usize, word: i32)
@@ -51,21 +50,15 @@ impl Rack for BayTable {
     ghost loan = { λ _. nothing_lent };
 
     fn length(&self) -> usize {
-        self.count
+        self.bays().len()
     }
 
     fn read(&self, slot: usize) -> Option<i32> {
-        if slot < self.length() {
-            Some(self.word_at(slot))
-        } else {
-            None
-        }
+        self.bays().get(slot).copied()
     }
 
     fn write(&mut self, slot: usize, word: i32) -> Result<(), BayFault> {
-        if slot >= self.length() {
-            return Err(BayFault::NoSuchBay);
-        }
+        check_write(slot, self.length(), true)?;
         self.put(slot, word);
         Ok(())
     }
