@@ -3,9 +3,6 @@ use Rattle.std.proofs.Common.{◌≡◌, ℕ, suc, ◌+◌, ◌-◌, ◌*◌, �
 use native.Mathlib.Decide.{dec_le}
 use Rattle.script.specs.declared.ending.Ending.{Ending}
 use Rattle.machine.specs.Machine.{Image, MachineState, Progress, running, over, undefined, step, proceed, run}
-use Rattle.machine.specs.declared.state.RunEnd.{RunEnd}
-use Rattle.machine.proofs.Runs.{run-add}
-use Rattle.machine.proofs.Budgets.{Tells}
 use Rattle.treerun.specs.Report.{Report}
 use Rattle.agreement.specs.Agreement.{machine_report, StillRuns, Ends}
 
@@ -97,26 +94,3 @@ module _ {W : Type 0} {I : Image W} {m : MachineState W} {r : Report W} (E : End
       let l : (r.ticks + 1) * length I.code ≤ (m.fuel + 1) * length I.code =
       mul-le-mul_right (length I.code) t in
       E.after n (omega (arith, E.bounded))
-
-  -- A run with a budget that has ended has the report.
-  pub budget-over :
-      (n made all : ℕ) (x : MachineState W) (e : RunEnd) → Tells I n made m all x (Some e)
-      → machine_report I m.fuel e.ending e.place x ≡ r
-  budget-over n made all x e (count, a, l, y, before, o) = over-reports (suc count) e.ending e.place x o
-
-  undefined-next :
-      (n : ℕ) (x : MachineState W) → run I n m ≡ running x → step I x ≡ undefined → run I (n + 1) m ≡ undefined
-  unfolding run
-  undefined-next n x h u =
-      run-add I n 1 m
-      ∙ ap (λ (o : Progress W). proceed o (run I 1)) h
-      ∙ ap (λ (o : Progress W). proceed o (run I 0)) u
-
-  -- One that has not has made all its steps.
-  pub budget-paused :
-      (n made all : ℕ) (x : MachineState W) → Tells I n made m all x None
-      → (all ≡ made + n) × (run I n m ≡ running x)
-  budget-paused n made all x (count, a, l, h, inl e) =
-      (a ∙ ap (λ (k : ℕ). made + k) e, subst (λ (k : ℕ). run I k m ≡ running x) e h)
-  budget-paused n made all x (count, a, l, h, inr u) =
-      absurd (never-undefined (count + 1) (undefined-next count x h u))

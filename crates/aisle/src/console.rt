@@ -14,10 +14,7 @@ fn call_of(line: &CallLine) -> Call<'_> {
     match line {
         CallLine::Load(table) => Call::Load(table.as_slice()),
         CallLine::Compile => Call::Compile,
-        CallLine::Arm(limits) => Call::Arm {
-            fuel: limits.fuel,
-            depth: limits.depth,
-        },
+        CallLine::Arm(limits) => Call::Arm(*limits),
         CallLine::Run(steps) => Call::Run(*steps),
         CallLine::Stop => Call::Stop,
     }
@@ -38,8 +35,7 @@ fn print_answer(rt: &HostRuntime, name: &str, answer: Result<Answer, Refusal>) -
     match answer {
         Ok(Answer::Taken) => println!(rt; "{name}: taken"),
         Ok(Answer::Paused) => println!(rt; "{name}: paused"),
-        Ok(Answer::Ended(ending, place)) => {
-            let end = RunEnd { ending, place };
+        Ok(Answer::Ended(end)) => {
             println!(rt; "{name}: {}", Numbers(end))?;
             eprintln!(rt; "{}", Ended(end))
         }

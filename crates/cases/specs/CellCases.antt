@@ -26,7 +26,7 @@ use Rattle.cell.specs.Promises.{seen}
 -- (Where the reference to a lent table points, and under which name, does not matter.)
 abbrev pub job : List Record → ℕ → ℕ → List ℕ → List Call
 job table fuel depth runs =
-    Load (record { ref_ptr = (0, 0); now = table }) ∷ Compile ∷ Arm fuel depth ∷ map (λ n. Run n) runs
+    Load (record { ref_ptr = (0, 0); now = table }) ∷ Compile ∷ Arm (record { fuel = fuel; depth = depth }) ∷ map (λ n. Run n) runs
 
 -- An unused cell with the words and bays that it is lent.
 abbrev pub lent : {W : Type 0} → List W → List W → World W
@@ -76,7 +76,7 @@ taken_then later = Ok Taken ∷ Ok Taken ∷ Ok Taken ∷ later
 -- A run has ended in its first piece, after so many steps.
 abbrev pub ends_at : {W : Type 0} → ℕ → Report W → Seen W
 ends_at steps r = record {
-  answers = taken_then (Ok (Ended r.ending r.place) ∷ []);
+  answers = taken_then (Ok (Ended (record { ending = r.ending; place = r.place })) ∷ []);
   steps = steps;
   report = Some r;
 }
@@ -127,7 +127,7 @@ pub record CellCases : Type 0 where
     report = None;
   }
   pub in_two_pieces : end_bay_seen 7 3 8 1 (40 ∷ 47 ∷ []) ≡ record {
-    answers = taken_then (Ok Paused ∷ Ok (Ended Done 0) ∷ []);
+    answers = taken_then (Ok Paused ∷ Ok (Ended (record { ending = Done; place = 0 })) ∷ []);
     steps = 87;
     report = Some three_marked_bays;
   }

@@ -8,26 +8,23 @@ ghost use Rattle.cases.specs.WorkedCases.{WorkedCases};
 use code::cases::end_bay_code_stands;
 
 // The worked cases of the cell.
-pub fn cell_cases_hold() -> u8
+pub fn cell_cases_hold()
     ensures { CellCases }
-{
-    0
-}
+{}
 
 // The steps in which a cell marks three bays by the end-bay table.
 pub fn end_bay_steps() -> u32
     ensures { result ≡ (end_bay_seen 7 3 8 1 (87 ∷ [])).steps }
 {
-    let _ = cell_cases_hold();
+    cell_cases_hold();
     87
 }
 
 // All worked cases, as one list.
-pub fn worked_cases_hold() -> u8
+pub fn worked_cases_hold()
     ensures { WorkedCases }
 {
-    let _ = walk::cases::worked_cases_hold();
+    walk::cases::worked_cases_hold();
     end_bay_code_stands();
-    let _ = cell_cases_hold();
-    0
+    cell_cases_hold();
 }

@@ -1,5 +1,5 @@
 -- The two calls that set the machine going: an arm begins a run, and a run goes on where the machine stands.
-use Rattle.std.proofs.Common.{◌≡◌, ℕ, suc, ◌+◌, ◌*◌, ◌≤◌, Bool, true, false, ◌&&◌, leb, List, [], length, ℤ, Some, None, Ok, Err, Option, Result, sym, refl, ap, ◌∙◌, subst, inl, inr, add-suc, zero-add, arith, leb-true}
+use Rattle.std.proofs.Common.{◌≡◌, ℕ, suc, ◌+◌, ◌*◌, ◌≤◌, Bool, true, false, leb, List, [], length, ℤ, Some, Ok, Err, Option, Result, sym, refl, ap, ◌∙◌, subst, add-suc, arith, leb-true}
 use lib.ListN.{length-map}
 use Rattle.kinds.specs.Kinds.{Kind}
 use Rattle.script.specs.declared.refusal.Refusal.{Refusal}
@@ -9,15 +9,19 @@ use Rattle.syntax.specs.Typed.{program_of}
 use Rattle.names.specs.Need.{largest_need}
 use Rattle.names.specs.Names.{unless, ◌⨟◌}
 use Rattle.code.specs.Scheme.{number_of, global_numbers, global_count}
-use Rattle.machine.specs.declared.state.RunEnd.{RunEnd}
 use Rattle.machine.specs.Machine.{Image, MachineState, Progress, running, undefined, step, proceed, run, armed}
-use Rattle.machine.specs.Budget.{run_at_most}
+use Rattle.machine.specs.declared.outcome.Step.{Step}
+use Rattle.machine.specs.declared.outcome.Step.TheVariants.{Running, Over, Undefined}
+use Rattle.machine.specs.Steps.{run_at_most}
 use Rattle.machine.proofs.Runs.{run-add}
 use Rattle.machine.proofs.Budgets.{Tells, tells}
 use Rattle.agreement.specs.Agreement.{program_image, Ends}
 use Rattle.agreement.proofs.Agreed.{agreement}
 use Rattle.agreement.proofs.Pieces.{never-undefined}
 use Rattle.cell.specs.Outcomes.{Shown, World, machine_in, counted, image_in, globals_told, words_wanted, words_suffice}
+use Rattle.script.specs.declared.limits.Limits.{Limits}
+use Rattle.script.specs.Limits.{within_limits}
+use Rattle.cell.specs.Endings.{end_of}
 use Rattle.cell.specs.Outcomes.{arms, arm_rules, armed_by, run_state, ran_to, ran_by}
 use Rattle.cell.specs.declared.calls.State.{State}
 use Rattle.cell.specs.Promises.{Armed, Notes, grant, tree_run}
@@ -67,11 +71,11 @@ both-passed (Err e) b q = absurd (let z : ◌≡◌ {A = ℕ} 0 1 = cc in omega 
 
 -- An arm that is taken has words enough.
 arm-fits :
-    (state : State) (fuel depth wanted lent : ℕ) → arm_rules state fuel depth wanted lent ≡ Ok tt → wanted ≤ lent
-arm-fits state fuel depth wanted lent q =
+    (state : State) (limits : Limits) (wanted lent : ℕ) → arm_rules state limits wanted lent ≡ Ok tt → wanted ≤ lent
+arm-fits state limits wanted lent q =
     let after-state = both-passed (unless (arms state) WrongState) _ q in
     let after-numbers =
-    both-passed (unless (leb fuel 1000000 && leb depth 63) FuelOrDepth) (words_suffice wanted lent) after-state in
+    both-passed (unless (within_limits limits) FuelOrDepth) (words_suffice wanted lent) after-state in
     leb-true wanted lent (passed (leb wanted lent) (TooFewWords wanted) after-numbers)
 
 -- Steps counted one piece after another.
@@ -82,17 +86,17 @@ module _ {W : Type 0} (kind : Kind W) (holds : W → Bool) where
   -- ---- an arm
 
   pub begins :
-      (n : Notes W) (w : World W) (state : State) (fuel depth : ℕ) → HasCode (program_of n.coded) w.cell
-      → arm_rules state fuel depth (words_wanted depth w.cell) (length w.words) ≡ Ok tt
+      (n : Notes W) (w : World W) (state : State) (limits : Limits) → HasCode (program_of n.coded) w.cell
+      → arm_rules state limits (words_wanted limits.depth w.cell) (length w.words) ≡ Ok tt
       → GoesOn kind holds
       (record {
         loaded = n.loaded;
         coded = n.coded;
-        armed = Some (record { fuel = fuel; depth = depth; bays = w.bays; granted = 0 });
+        armed = Some (record { fuel = limits.fuel; depth = limits.depth; bays = w.bays; granted = 0 });
       })
-      (armed_by kind holds fuel depth w).world
+      (armed_by kind holds limits w).world
   unfolding run
-  begins n w state fuel depth h q = record {
+  begins n w state limits h q = record {
     begun = record {
       has = record {
         code = h.code;
@@ -101,17 +105,17 @@ module _ {W : Type 0} (kind : Kind W) (holds : W → Bool) where
         need = h.need;
         named = h.named;
       };
-      arm = record { fuel = fuel; depth = depth; bays = w.bays; granted = 0 };
+      arm = record { fuel = limits.fuel; depth = limits.depth; bays = w.bays; granted = 0 };
       noted = refl;
       depth = refl;
       globals = globals-are h;
       fuel = refl;
       words = w.words;
       room =
-          subst (λ (k : ℕ). k ≤ length w.words) (wanted-is h depth)
-          (arm-fits state fuel depth (words_wanted depth w.cell) (length w.words) q);
+          subst (λ (k : ℕ). k ≤ length w.words) (wanted-is h limits.depth)
+          (arm-fits state limits (words_wanted limits.depth w.cell) (length w.words) q);
     };
-    came = ap (λ (m : MachineState W). running m) (armed-is h kind holds depth fuel w.words w.bays);
+    came = ap (λ (m : MachineState W). running m) (armed-is h kind holds limits.depth limits.fuel w.words w.bays);
     steps = refl;
   }
 
@@ -161,12 +165,12 @@ module _ {W : Type 0} (kind : Kind W) (holds : W → Bool) where
     abbrev noting : ℕ → Notes W
     noting k = record { loaded = n.loaded; coded = n.coded; armed = grant k n.armed }
 
-    abbrev ran : ℕ → MachineState W → Option RunEnd → World W
-    ran made x e = (ran_to kind holds w (record { made = made; state = x; end = e })).world
+    abbrev ran : Step → ℕ → MachineState W → World W
+    ran outcome made x = (ran_to kind holds w (record { outcome = outcome; made = made; state = x })).world
 
     abbrev still-begun :
-        (k made : ℕ) (x : MachineState W) (e : Option RunEnd) → Begun kind holds (noting k) (ran made x e)
-    still-begun k made x e = record {
+        (k : ℕ) (outcome : Step) (made : ℕ) (x : MachineState W) → Begun kind holds (noting k) (ran outcome made x)
+    still-begun k outcome made x = record {
       has = record {
         code = g.begun.has.code;
         entries = g.begun.has.entries;
@@ -187,17 +191,17 @@ module _ {W : Type 0} (kind : Kind W) (holds : W → Bool) where
     steps-counted made = ap (λ (s : ℕ). counted (s + made)) g.steps ∙ counted-more past made
 
     goes :
-        (k made : ℕ) (x : MachineState W) (e : Option RunEnd) → Tells I k 0 (machine_in w) made x e
-        → StandsIn kind holds (run_state e) (noting k) (ran made x e)
-    goes k made x None (count, a, l, h, inl q) = record {
-      begun = still-begun k made x None;
-      came = onward k ∙ subst (λ (z : ℕ). run I z (machine_in w) ≡ running x) q h;
-      steps = steps-counted made ∙ ap (λ (z : ℕ). counted (past + z)) (a ∙ zero-add count ∙ q);
+        (k : ℕ) (outcome : Step) (made : ℕ) (x : MachineState W) → Tells I k (machine_in w) outcome made x
+        → StandsIn kind holds (run_state (end_of outcome)) (noting k) (ran outcome made x)
+    goes k Running made x (a, h) = record {
+      begun = still-begun k Running made x;
+      came = onward k ∙ h;
+      steps = steps-counted made ∙ ap (λ (z : ℕ). counted (past + z)) a;
     }
-    goes k made x None (count, a, l, h, inr u) =
-        absurd (never-undefined (ends n w g.begun) (past + (count + 1)) (undefined-next count x h u))
-    goes k made x (Some e) (count, a, l, y, h, o) = record {
-      begun = still-begun k made x (Some e);
+    goes k Undefined made x (l, h, u) =
+        absurd (never-undefined (ends n w g.begun) (past + (made + 1)) (undefined-next made x h u))
+    goes k (Over e) made x (count, a, l, y, h, o) = record {
+      begun = still-begun k (Over e) made x;
       end = e;
       told = refl;
       count = past + count;
@@ -206,7 +210,7 @@ module _ {W : Type 0} (kind : Kind W) (holds : W → Bool) where
       ended = ap (λ (z : ℕ). run I z m) (sym (add-suc past count)) ∙ onward (suc count) ∙ o;
       steps =
           steps-counted made
-          ∙ ap (λ (z : ℕ). counted (past + z)) (a ∙ zero-add (suc count))
+          ∙ ap (λ (z : ℕ). counted (past + z)) a
           ∙ ap (λ (z : ℕ). counted z) (add-suc past count);
     }
 
@@ -214,10 +218,10 @@ module _ {W : Type 0} (kind : Kind W) (holds : W → Bool) where
     runs k =
         subst
         (λ (J : Image W).
-        (let r = run_at_most J k 0 (machine_in w) in
-        StandsIn kind holds (run_state r.end) (noting k) (ran_to kind holds w r).world))
+        (let r = run_at_most J k (machine_in w) in
+        StandsIn kind holds (run_state (end_of r.outcome)) (noting k) (ran_to kind holds w r).world))
         (sym
         (ap (λ (depth : ℕ). image_in kind holds depth w.cell.registers.globals w.cell) g.begun.depth
         ∙ image-is g.begun.has kind holds g.begun.arm.depth w.cell.registers.globals
         g.begun.globals))
-        (goes k _ _ _ (tells I k 0 (machine_in w)))
+        (goes k _ _ _ (tells I k (machine_in w)))

@@ -1,9 +1,10 @@
 -- One call after another: what stands before a call stands after it, with the call noted.
-use Rattle.std.proofs.Common.{◌≡◌, ℕ, Bool, List, [], ◌∷◌, length, Ok, Err, Result, refl, subst}
+use Rattle.std.proofs.Common.{◌≡◌, Bool, List, [], ◌∷◌, length, Ok, Err, Result, refl, subst}
 use Rattle.kinds.specs.Kinds.{Kind}
 use Rattle.script.specs.declared.record.Record.{Record}
 use Rattle.script.specs.declared.refusal.Refusal.{Refusal}
 use Rattle.script.specs.Shape.{shape}
+use Rattle.script.specs.declared.limits.Limits.{Limits}
 use Rattle.syntax.specs.Typed.{program_of}
 use Rattle.names.specs.Names.{name_rules}
 use Rattle.names.specs.Passes.{outcome as provided}
@@ -31,8 +32,8 @@ module _ {W : Type 0} (kind : Kind W) (holds : W → Bool) where
     providing c (Ok tt) f took = took refl
     providing c (Err e) f took = standing
 
-    abbrev arm_tests : State → ℕ → ℕ → Result (Unit {0}) Refusal
-    arm_tests s fuel depth = arm_rules s fuel depth (words_wanted depth w.cell) (length w.words)
+    abbrev arm_tests : State → Limits → Result (Unit {0}) Refusal
+    arm_tests s limits = arm_rules s limits (words_wanted limits.depth w.cell) (length w.words)
 
     made :
         w.cell.table ≡ n.loaded → name_rules (program_of w.cell.table) ≡ Ok tt
@@ -61,15 +62,15 @@ module _ {W : Type 0} (kind : Kind W) (holds : W → Bool) where
     keeps Coded Compile h = standing
     keeps Running Compile h = standing
     keeps Over Compile h = standing
-    keeps Empty (Arm fuel depth) h = standing
-    keeps Loaded (Arm fuel depth) h = standing
-    keeps Coded (Arm fuel depth) h =
-        providing (Arm fuel depth) (arm_tests Coded fuel depth) (armed_by kind holds fuel depth w)
-        (begins kind holds n w Coded fuel depth h.0)
-    keeps Running (Arm fuel depth) h = standing
-    keeps Over (Arm fuel depth) h =
-        providing (Arm fuel depth) (arm_tests Over fuel depth) (armed_by kind holds fuel depth w)
-        (begins kind holds n w Over fuel depth h.begun.has)
+    keeps Empty (Arm limits) h = standing
+    keeps Loaded (Arm limits) h = standing
+    keeps Coded (Arm limits) h =
+        providing (Arm limits) (arm_tests Coded limits) (armed_by kind holds limits w)
+        (begins kind holds n w Coded limits h.0)
+    keeps Running (Arm limits) h = standing
+    keeps Over (Arm limits) h =
+        providing (Arm limits) (arm_tests Over limits) (armed_by kind holds limits w)
+        (begins kind holds n w Over limits h.begun.has)
     keeps Empty (Run steps) h = standing
     keeps Loaded (Run steps) h = standing
     keeps Coded (Run steps) h = standing

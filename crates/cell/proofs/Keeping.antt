@@ -6,7 +6,7 @@ use Rattle.kinds.specs.Words.{zero_word}
 use Rattle.syntax.specs.Typed.{program_of}
 use Rattle.code.specs.Scheme.{program_code}
 use Rattle.code.specs.declared.instruction.Instruction.{Instruction}
-use Rattle.machine.specs.declared.state.RunEnd.{RunEnd}
+use Rattle.script.specs.declared.ending.RunEnd.{RunEnd}
 use Rattle.treerun.specs.Report.{Report}
 use Rattle.agreement.specs.Agreement.{answer_at, Ends}
 use Rattle.agreement.proofs.Pieces.{running-bounded, last-bounded, over-reports, enough}

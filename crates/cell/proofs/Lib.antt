@@ -1,9 +1,6 @@
-pub mod Accepting
 pub mod Literals
 pub mod Standing
 pub mod ArmAndRun
 pub mod CallByCall
 pub mod Keeping
 pub mod Lists
-pub mod Budgeted
-pub mod GoingOn

@@ -6,7 +6,7 @@ use Rattle.syntax.specs.Typed.{program_of}
 use Rattle.names.specs.Need.{largest_need}
 use Rattle.names.specs.Scoped.{WellNamed}
 use Rattle.code.specs.Scheme.{program_code, function_entries, global_numbers, global_count}
-use Rattle.machine.specs.declared.state.RunEnd.{RunEnd}
+use Rattle.script.specs.declared.ending.RunEnd.{RunEnd}
 use Rattle.machine.specs.Machine.{Image, MachineState, running, over, run, armed}
 use Rattle.agreement.specs.Agreement.{program_image}
 use Rattle.cell.specs.declared.calls.State.{State}

@@ -2,9 +2,9 @@
 use Rattle.std.specs.Prelude.{Some, None, Option}
 use Rattle.machine.specs.declared.outcome.Step.{Step}
 use Rattle.machine.specs.declared.outcome.Step.TheVariants.{Running, Over, Undefined}
-use Rattle.machine.specs.declared.state.RunEnd.{RunEnd}
+use Rattle.script.specs.declared.ending.RunEnd.{RunEnd}
 
 abbrev pub end_of : Step → Option RunEnd
 end_of Running = None
-end_of (Over e place) = Some (record { ending = e; place = place })
+end_of (Over e) = Some e
 end_of Undefined = None

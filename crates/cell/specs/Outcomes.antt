@@ -1,10 +1,12 @@
 -- What each call on a cell answers and leaves, by the cell's state and the call together, and so a list of calls.
-use Rattle.std.specs.Prelude.{ℕ, ◌+◌, ◌-◌, ◌*◌, ◌^◌, min, Bool, true, false, ◌&&◌, List, [], ◌∷◌, ◌++◌, map, length, drop, ℤ, Some, None, Ok, Err, fold, Option, Result, nat_le}
+use Rattle.std.specs.Prelude.{ℕ, ◌+◌, ◌-◌, ◌*◌, ◌^◌, min, Bool, true, false, List, [], ◌∷◌, ◌++◌, map, length, drop, ℤ, Some, None, Ok, Err, fold, Option, Result, nat_le}
 use Rattle.kinds.specs.Kinds.{Kind}
 use Rattle.script.specs.declared.record.Record.{Record}
 use Rattle.script.specs.declared.refusal.Refusal.{Refusal}
 use Rattle.script.specs.declared.refusal.Refusal.TheVariants.{FuelOrDepth, TooFewWords, WrongState}
+use Rattle.script.specs.Limits.{within_limits}
 use Rattle.script.specs.Shape.{shape}
+use Rattle.script.specs.declared.limits.Limits.{Limits}
 use Rattle.syntax.specs.Syntax.{Program}
 use Rattle.syntax.specs.Typed.{program_of}
 use Rattle.names.specs.Need.{largest_need}
@@ -14,9 +16,10 @@ use Rattle.code.specs.declared.instruction.Instruction.{Instruction}
 use Rattle.code.specs.declared.instruction.FunctionEntry.{FunctionEntry}
 use Rattle.code.specs.Scheme.{program_code, function_entries, global_numbers}
 use Rattle.machine.specs.declared.state.Frame.{Frame}
-use Rattle.machine.specs.declared.state.RunEnd.{RunEnd}
+use Rattle.script.specs.declared.ending.RunEnd.{RunEnd}
 use Rattle.machine.specs.Machine.{Image, MachineState, armed}
-use Rattle.machine.specs.Budget.{Ran, run_at_most}
+use Rattle.machine.specs.Steps.{Ran, run_at_most}
+use Rattle.cell.specs.Endings.{end_of}
 use Rattle.cell.specs.declared.calls.State.{State}
 use Rattle.cell.specs.declared.calls.State.TheVariants.{Empty, Loaded, Coded, Running, Over}
 use Rattle.cell.specs.declared.calls.Call.{Call}
@@ -219,8 +222,8 @@ with_machine state registers fuel steps end s = record {
 }
 
 -- An arm.
-abbrev pub with_run : ℕ → ℕ → Shown → Shown
-with_run fuel depth s = with_machine Running (start_registers (globals_told s) depth fuel) fuel 0 None s
+abbrev pub with_run : Limits → Shown → Shown
+with_run l s = with_machine Running (start_registers (globals_told s) l.depth l.fuel) l.fuel 0 None s
 
 -- A stop.
 abbrev pub with_state : State → Shown → Shown
@@ -268,10 +271,9 @@ compile_rules state table = unless (compiles state) WrongState ⨟ name_rules (p
 abbrev pub words_suffice : ℕ → ℕ → Result (Unit {0}) Refusal
 words_suffice wanted lent = unless (nat_le wanted lent) (TooFewWords wanted)
 
-abbrev pub arm_rules : State → ℕ → ℕ → ℕ → ℕ → Result (Unit {0}) Refusal
-arm_rules state fuel depth wanted lent =
-    unless (arms state) WrongState
-    ⨟ unless (nat_le fuel 1000000 && nat_le depth 63) FuelOrDepth ⨟ words_suffice wanted lent
+abbrev pub arm_rules : State → Limits → ℕ → ℕ → Result (Unit {0}) Refusal
+arm_rules state limits wanted lent =
+    unless (arms state) WrongState ⨟ unless (within_limits limits) FuelOrDepth ⨟ words_suffice wanted lent
 
 abbrev pub run_rules : State → ℕ → ℕ → Result (Unit {0}) Refusal
 run_rules state wanted lent = unless (is_running state) WrongState ⨟ words_suffice wanted lent
@@ -294,7 +296,7 @@ pub record Effect (W : Type 0) : Type 0 where
 -- How a run that came out so is answered, and the state that it leaves.
 abbrev pub run_answer : Option RunEnd → Answer
 run_answer None = Paused
-run_answer (Some e) = Ended e.ending e.place
+run_answer (Some e) = Ended e
 
 abbrev pub run_state : Option RunEnd → State
 run_state None = Running
@@ -315,24 +317,25 @@ with_literals kind numbers words = map (λ v. kind.literal v) numbers ++ drop (l
 
 module _ {W : Type 0} (kind : Kind W) (holds : W → Bool) where
   -- An arm leaves the state just after arming.
-  abbrev pub armed_by : ℕ → ℕ → World W → Effect W
-  armed_by fuel depth w =
-      on_machine Taken (with_run fuel depth w.cell)
-      (armed (image_in kind holds depth (globals_told w.cell) w.cell) w.cell.numbers w.words w.bays fuel)
+  abbrev pub armed_by : Limits → World W → Effect W
+  armed_by limits w =
+      on_machine Taken (with_run limits w.cell)
+      (armed (image_in kind holds limits.depth (globals_told w.cell) w.cell) w.cell.numbers w.words w.bays limits.fuel)
 
   -- A run goes on from where the machine stands.
   abbrev pub ran_to : World W → Ran W → Effect W
   ran_to w r =
       let before = w.cell.registers in
-      on_machine (run_answer r.end)
-      (with_machine (run_state r.end) (registers_of before.depth before.globals r.state) w.cell.fuel
-      (counted (w.cell.steps + r.made)) r.end w.cell)
+      let end = end_of r.outcome in
+      on_machine (run_answer end)
+      (with_machine (run_state end) (registers_of before.depth before.globals r.state) w.cell.fuel
+      (counted (w.cell.steps + r.made)) end w.cell)
       r.state
 
   abbrev pub ran_by : ℕ → World W → Effect W
   ran_by steps w =
       let before = w.cell.registers in
-      ran_to w (run_at_most (image_in kind holds before.depth before.globals w.cell) steps 0 (machine_in w))
+      ran_to w (run_at_most (image_in kind holds before.depth before.globals w.cell) steps (machine_in w))
 
   -- What a call does in a state, by both together: its rules, and what it does where they are met.
   abbrev pub effect : State → Call → World W → Result (Effect W) Refusal
@@ -340,8 +343,8 @@ module _ {W : Type 0} (kind : Kind W) (holds : W → Bool) where
       provided (load_rules state table.now) (on_cell w (with_table table.now w.cell))
   effect state Compile w =
       provided (compile_rules state w.cell.table) (on_cell w (with_code (program_of w.cell.table) w.cell))
-  effect state (Arm fuel depth) w =
-      provided (arm_rules state fuel depth (words_wanted depth w.cell) (length w.words)) (armed_by fuel depth w)
+  effect state (Arm limits) w =
+      provided (arm_rules state limits (words_wanted limits.depth w.cell) (length w.words)) (armed_by limits w)
   effect state (Run steps) w =
       provided (run_rules state (words_wanted w.cell.registers.depth w.cell) (length w.words))
       (ran_by steps w)

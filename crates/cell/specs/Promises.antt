@@ -6,7 +6,7 @@ use Rattle.script.specs.declared.record.Record.{Record}
 use Rattle.script.specs.declared.refusal.Refusal.{Refusal}
 use Rattle.syntax.specs.Typed.{program_of}
 use Rattle.treerun.specs.Report.{Report, report_of}
-use Rattle.machine.specs.declared.state.RunEnd.{RunEnd}
+use Rattle.script.specs.declared.ending.RunEnd.{RunEnd}
 use Rattle.agreement.specs.Agreement.{answer_at}
 use Rattle.cell.specs.declared.calls.State.TheVariants.{Empty, Over}
 use Rattle.cell.specs.declared.calls.Call.{Call}
@@ -43,10 +43,10 @@ module _ {W : Type 0} where
   abbrev pub note_taken : Notes W → List W → Call → Notes W
   note_taken n bays (Load table) = record { loaded = table.now; coded = n.coded; armed = None }
   note_taken n bays Compile = record { loaded = n.loaded; coded = n.loaded; armed = n.armed }
-  note_taken n bays (Arm fuel depth) = record {
+  note_taken n bays (Arm limits) = record {
     loaded = n.loaded;
     coded = n.coded;
-    armed = Some (record { fuel = fuel; depth = depth; bays = bays; granted = 0 });
+    armed = Some (record { fuel = limits.fuel; depth = limits.depth; bays = bays; granted = 0 });
   }
   note_taken n bays (Run steps) = record { loaded = n.loaded; coded = n.coded; armed = grant steps n.armed }
   note_taken n bays Stop = record { loaded = n.loaded; coded = n.coded; armed = None }

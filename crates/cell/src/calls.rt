@@ -1,9 +1,8 @@
 // The states of a cell, the calls on it and what they answer.
-use script::Record;
-use script::ending::Ending;
+use script::{Limits, Record, RunEnd};
 
 // Which calls a cell takes depends on its state.
-#[derive(Clone, Copy)]
+#[derive(Clone, Copy, PartialEq, Eq, Debug)]
 pub enum State {
     // Nothing was loaded yet.
     Empty,
@@ -17,22 +16,22 @@ pub enum State {
     Over,
 }
 
-#[derive(Clone, Copy)]
+#[derive(Clone, Copy, PartialEq, Eq, Debug)]
 pub enum Call<'a> {
     Load(&'a [Record]),
     Compile,
-    Arm { fuel: u32, depth: u32 },
+    Arm(Limits),
     // At most so many steps.
     Run(u32),
     Stop,
 }
 
 // What a call that is taken answers.
-#[derive(Clone, Copy)]
+#[derive(Clone, Copy, PartialEq, Eq, Debug)]
 pub enum Answer {
     Taken,
     // The run has made all steps granted, and has not ended.
     Paused,
-    // The run has ended, at this record.
-    Ended(Ending, usize),
+    // The run has ended.
+    Ended(RunEnd),
 }

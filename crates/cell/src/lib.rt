@@ -9,6 +9,8 @@ pub mod performing;
 pub mod promises;
 pub mod questions;
 pub mod running;
+#[cfg(test)]
+mod tests;
 
 pub use calls::{Answer, Call, State};
 pub use memory::Cell;

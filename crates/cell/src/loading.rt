@@ -7,9 +7,9 @@ ghost use Rattle.names.specs.Names.{name_rules};
 ghost use Rattle.cell.specs.Outcomes.{unused, either, compiles, load_rules, compile_rules, stop_rules, with_table, with_code, with_state};
 ghost use Rattle.cell.specs.Showing.{shown};
 
-use crate::arming::at_start;
 use crate::calls::State;
 use crate::memory::Cell;
+use machine::state::Machine;
 use script::{Record, Refusal, check_shape};
 use std::alloc::{AllocError, Global};
 use translator::Translation;
@@ -24,7 +24,7 @@ impl Cell {
             table: Vec::with_capacity(heap, 1024)?,
             translation: Translation::new(heap)?,
             need: 0,
-            machine: at_start(0, 0, 0),
+            machine: Machine::new(0, 0, 0),
             fuel: 0,
             steps: 0,
             end: None,

@@ -3,8 +3,8 @@ ghost use Rattle.std.specs.Prelude.{◌≡◌, ◌≤◌, true, vec_capacity};
 ghost use Rattle.cell.specs.Accepted.{accepted_in};
 
 use crate::calls::State;
-use machine::state::{Machine, RunEnd};
-use script::Record;
+use machine::state::Machine;
+use script::{Record, RunEnd};
 use translator::Translation;
 
 // Its memory is reserved once, so that no later call can fail for want of it.
@@ -20,6 +20,7 @@ pub struct Cell {
     // the fuel granted at the last arm, and the steps made since
     pub(crate) fuel: u32,
     pub(crate) steps: u32,
+    // how the last run ended; a stop or a load keeps it, so it is no part of the state
     pub(crate) end: Option<RunEnd>,
     ghost room: { 1024 ≤ vec_capacity table },
     ghost accepted: { accepted_in state table.items ≡ true },

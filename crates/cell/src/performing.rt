@@ -52,8 +52,8 @@ impl Cell {
                 self.make()?;
                 Ok(Answer::Taken)
             }
-            (State::Coded | State::Over, Call::Arm { fuel, depth }) => {
-                self.begin(words, fuel, depth)?;
+            (State::Coded | State::Over, Call::Arm(limits)) => {
+                self.begin(words, limits)?;
                 Ok(Answer::Taken)
             }
             (State::Running, Call::Run(steps)) => self.go_on(words, rack, steps),

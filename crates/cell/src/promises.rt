@@ -5,8 +5,6 @@ ghost use Rattle.cell.specs.Promises.{Promises};
 use kinds::NumberKind;
 
 // That the promises are kept at every number kind, whatever words a bay can hold.
-pub fn promises_stand<W: NumberKind>() -> u8
+pub fn promises_stand<W: NumberKind>()
     ensures { (holds : W → Bool) → Promises W.NumberKind.kind holds }
-{
-    0
-}
+{}

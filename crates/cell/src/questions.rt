@@ -6,7 +6,7 @@ ghost use Rattle.cell.specs.Showing.{shown};
 use crate::calls::State;
 use crate::memory::Cell;
 use code::instruction::Instruction;
-use machine::state::RunEnd;
+use script::RunEnd;
 
 impl Cell {
     pub fn state(&self) -> State
@@ -66,6 +66,6 @@ impl Cell {
     pub fn words_wanted(&self, depth: u32) -> usize
         ensures { result ≡ words_wanted depth (shown self.now) }
     {
-        self.translation.globals().len() + (depth as usize + 1) * self.need
+        self.globals() + (depth as usize + 1) * self.need
     }
 }

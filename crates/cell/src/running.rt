@@ -9,16 +9,16 @@ ghost use Rattle.cell.specs.Showing.{world_in};
 
 use crate::calls::{Answer, State};
 use crate::memory::Cell;
+use code::instruction::Code;
 use machine::outcome::Step;
-use machine::state::RunEnd;
 use racks::Rack;
-use script::Refusal;
+use script::{Refusal, RunEnd};
 
 fn end_of(outcome: Step) -> Option<RunEnd>
     ensures { result ≡ end_of outcome }
 {
     match outcome {
-        Step::Over(ending, place) => Some(RunEnd { ending, place }),
+        Step::Over(end) => Some(end),
         Step::Running | Step::Undefined => None,
     }
 }
@@ -26,19 +26,13 @@ fn end_of(outcome: Step) -> Option<RunEnd>
 fn answer_to(end: Option<RunEnd>) -> Answer
     ensures { result ≡ run_answer end }
 {
-    match end {
-        Some(end) => Answer::Ended(end.ending, end.place),
-        None => Answer::Paused,
-    }
+    end.map_or(Answer::Paused, Answer::Ended)
 }
 
 fn state_after(end: Option<RunEnd>) -> State
     ensures { result ≡ run_state end }
 {
-    match end {
-        Some(_) => State::Over,
-        None => State::Running,
-    }
+    end.map_or(State::Running, |_| State::Over)
 }
 
 impl Cell {
@@ -60,9 +54,11 @@ impl Cell {
         if words.len() < wanted {
             return Err(Refusal::TooFewWords(wanted));
         }
-        let code = self.translation.code();
-        let entries = self.translation.entries();
-        let run = self.machine.run(words, rack, code, entries, steps);
+        let code = Code {
+            instructions: self.translation.code(),
+            entries: self.translation.entries(),
+        };
+        let run = self.machine.run(words, rack, code, steps);
         let end = end_of(run.outcome);
         self.steps = self.steps.saturating_add(run.made);
         self.end = end;

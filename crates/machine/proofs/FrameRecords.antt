@@ -1,9 +1,9 @@
 -- Calls and returns, by the frame records of the open calls.
-use Rattle.std.proofs.Common.{◌≡◌, ℕ, zero, suc, ◌+◌, ◌-◌, ◌<◌, ◌≤◌, Bool, true, false, ltb, List, [], ◌∷◌, reverse, length, get_or, take, set, Some, None, Option, sym, refl, ap, ◌∙◌, inl, inr, add-one, arith}
+use Rattle.std.proofs.Common.{◌≡◌, ℕ, zero, suc, ◌+◌, ◌-◌, ◌<◌, ◌≤◌, Bool, true, false, ltb, List, [], ◌∷◌, reverse, length, get_or, take, set, Some, None, Option, sym, refl, ap, ◌∙◌, add-one, arith}
 use Rattle.std.specs.List.{slice_get}
 use Rattle.std.proofs.lemmas.List.{take_more, take_more_set, reverse-append, length-reverse, length-take-le}
-use Rattle.std.proofs.lemmas.Option.{slice_get-get_or, slice_get_past}
-use Rattle.std.proofs.lemmas.Bool.{lt-ltb, ltb-true, cases_lt}
+use Rattle.std.proofs.lemmas.Option.{slice_get-get_or, slice_get_within}
+use Rattle.std.proofs.lemmas.Bool.{lt-ltb, ltb-true}
 use Rattle.kinds.specs.Words.{zero_word}
 use Rattle.script.specs.declared.ending.Ending.{Ending}
 use Rattle.script.specs.declared.ending.Ending.TheVariants.{TooDeep}
@@ -29,19 +29,12 @@ frames-more records records' calls caller h e =
     sym (ap (λ (r : List Frame). reverse (take (calls + 1) r)) e
     ∙ (ap reverse (take_more_set records calls caller h) ∙ reverse-append (take calls records) (caller ∷ [])))
 
-slice_get-within : {X : Type 0} (xs : List X) (i : ℕ) (x : X) → Some x ≡ slice_get xs i → i < length xs
-slice_get-within xs i x found =
-    elim (cases_lt i (length xs)) [
-      | inl within ↦ within
-      | inr past ↦ let none = slice_get_past xs i past in let z : ◌≡◌ {A = ℕ} 0 1 = cc in absurd (omega arith)
-    ]
-
 -- a return takes the newest record off
 pub frames-less :
     (records : List Frame) (calls : ℕ) (caller : Frame) → 0 < calls
     → Some caller ≡ slice_get records (calls - 1) → reverse (take calls records) ≡ caller ∷ reverse (take (calls - 1) records)
 frames-less records calls caller some found =
-    let within = slice_get-within records (calls - 1) caller found in
+    let within = slice_get_within records (calls - 1) caller (sym found) in
     let e : calls ≡ (calls - 1) + 1 = omega arith in
     let last : caller ≡ get_or records (calls - 1) caller =
     let n = slice_get-get_or records (calls - 1) caller (omega arith) in cc in

@@ -1,7 +1,8 @@
 -- A run in pieces, and a run that is made step by step.
-use Rattle.std.proofs.Common.{◌≡◌, ℕ, zero, suc, ◌+◌, ◌-◌, ◌<◌, ◌≤◌, Bool, List, sym, refl, ap, ◌∙◌, suc-add, zero-add, arith}
+use Rattle.std.proofs.Common.{◌≡◌, ℕ, zero, suc, ◌+◌, ◌-◌, ◌<◌, ◌≤◌, Bool, List, sym, refl, ap, subst, ◌∙◌, suc-add, zero-add, arith}
 use Rattle.kinds.specs.Kinds.{Kind}
 use Rattle.script.specs.declared.ending.Ending.{Ending}
+use Rattle.script.specs.declared.ending.RunEnd.{RunEnd}
 use Rattle.code.specs.declared.instruction.Instruction.{Instruction}
 use Rattle.code.specs.declared.instruction.FunctionEntry.{FunctionEntry}
 use Rattle.machine.specs.declared.outcome.Step.{Step}
@@ -9,7 +10,7 @@ use Rattle.machine.specs.declared.outcome.Step.TheVariants.{Running, Over, Undef
 use Rattle.machine.specs.declared.state.Machine.{Machine}
 use Rattle.machine.specs.Machine.{Image, MachineState, Progress, running, over, undefined, step, proceed, run}
 use Rattle.machine.specs.Machine.{image_of}
-use Rattle.machine.specs.Steps.{answer_of, state_after, count_from, steps_made, Ran, steps_after, InPieces}
+use Rattle.machine.specs.Steps.{Makes, answer_of, state_after, count_from, steps_made, run_at_most, steps_after, InPieces}
 
 -- ---- an answer and a state tell the progress
 
@@ -22,11 +23,11 @@ module _ {W : Type 0} where
   told-running undefined before after e s = cc
 
   pub told_over :
-      (p : Progress W) (before after : MachineState W) (ending : Ending) (place : ℕ) → Over ending place ≡ answer_of p
-      → after ≡ state_after p before → p ≡ over ending place after
-  told_over (running x) before after ending place e s = cc
-  told_over (over f q x) before after ending place e s = cc
-  told_over undefined before after ending place e s = cc
+      (p : Progress W) (before after : MachineState W) (end : RunEnd) → Over end ≡ answer_of p
+      → after ≡ state_after p before → p ≡ over end.ending end.place after
+  told_over (running x) before after end e s = cc
+  told_over (over f q x) before after end e s = cc
+  told_over undefined before after end e s = cc
 
   pub told-undefined : (p : Progress W) → Undefined ≡ answer_of p → p ≡ undefined
   told-undefined (running x) e = cc
@@ -112,101 +113,94 @@ module _ {W : Type 0} (I : Image W) where
       after (over f p y) s ih e = ap (λ (o : Progress W). proceed o (run I 0)) s ∙ e
       after undefined s ih e = let z : ◌≡◌ {A = ℕ} 0 1 = cc in absurd (omega arith)
 
-  -- ---- a run of some steps, of which a number is left
+  -- The record of a run from its three parts.
+  came :
+      (steps : ℕ) (start : MachineState W) (outcome : Step) (made : ℕ) (after : MachineState W)
+      → outcome ≡ answer_of (run I steps start) → made ≡ steps_made I steps start
+      → after ≡ state_after (run I made start) start
+      → record { outcome = outcome; made = made; state = after } ≡ run_at_most I steps start
+  came steps start outcome made after told count left =
+      let state : after ≡ (run_at_most I steps start).state =
+      left ∙ ap (λ (k : ℕ). state_after (run I k start) start) count in
+      λ t. record { outcome = told t; made = count t; state = state t }
 
-  module _ (steps left : ℕ) (start here : MachineState W) (within : left ≤ steps)
-      (reached : run I (steps - left) start ≡ running here) where
-    pub from-here : run I steps start ≡ run I left here
+  -- ---- a run of some steps, of which a number is made
+
+  module _ (steps made : ℕ) (start here : MachineState W) (within : made ≤ steps) (reached : run I made start ≡ running here) where
+    from-here : run I steps start ≡ run I (steps - made) here
     from-here =
-        let e : steps ≡ (steps - left) + left = omega arith in
+        let e : steps ≡ made + (steps - made) = omega arith in
         ap (λ (n : ℕ). run I n start) e
-        ∙ (run-add (steps - left) left start ∙ ap (λ (p : Progress W). proceed p (run I left)) reached)
+        ∙ (run-add made (steps - made) start ∙ ap (λ (p : Progress W). proceed p (run I (steps - made))) reached)
 
-    pub made-from-here : steps_made I steps start ≡ (steps - left) + steps_made I left here
+    made-from-here : steps_made I steps start ≡ made + steps_made I (steps - made) here
     made-from-here =
-        let e : steps ≡ (steps - left) + left = omega arith in
+        let e : steps ≡ made + (steps - made) = omega arith in
         ap (λ (n : ℕ). steps_made I n start) e
-        ∙ (made-add (steps - left) left start
-        ∙ (ap (λ (n : ℕ). n + steps_after I left (run I (steps - left) start))
-        (made-running (steps - left) start here reached)
-        ∙ ap (λ (p : Progress W). (steps - left) + steps_after I left p) reached))
+        ∙ (made-add made (steps - made) start
+        ∙ (ap (λ (n : ℕ). n + steps_after I (steps - made) (run I made start))
+        (made-running made start here reached)
+        ∙ ap (λ (p : Progress W). made + steps_after I (steps - made) p) reached))
 
-    next : run I ((steps - left) + 1) start ≡ step I here
+    next : run I (made + 1) start ≡ step I here
     next =
-        run-add (steps - left) 1 start
+        run-add made 1 start
         ∙ (ap (λ (p : Progress W). proceed p (run I 1)) reached ∙ one-step here)
 
-    module _ (some : 0 < left) where
-      here_on : run I left here ≡ proceed (step I here) (run I (left - 1))
+    pub goes_further : (there : MachineState W) → step I here ≡ running there → run I (made + 1) start ≡ running there
+    goes_further there e = next ∙ e
+
+    module _ (some : made < steps) (p : Progress W) (is : step I here ≡ p) where
+      told-here : answer_of (run I steps start) ≡ answer_of (proceed p (run I (steps - made - 1)))
       unfolding run
-      here_on = let e : left ≡ suc (left - 1) = omega arith in ap (λ (n : ℕ). run I n here) e
+      told-here =
+          let e : steps - made ≡ suc (steps - made - 1) = omega arith in
+          ap answer_of (from-here
+          ∙ (ap (λ (n : ℕ). run I n here) e ∙ ap (λ (o : Progress W). proceed o (run I (steps - made - 1))) is))
 
-      made-here : steps_made I left here ≡ count_from (step I here) (steps_made I (left - 1))
+      counted-here : steps_made I steps start ≡ made + count_from p (steps_made I (steps - made - 1))
       unfolding steps_made
-      made-here = let e : left ≡ suc (left - 1) = omega arith in ap (λ (n : ℕ). steps_made I n here) e
+      counted-here =
+          let e : steps - made ≡ suc (steps - made - 1) = omega arith in
+          made-from-here
+          ∙ ap (λ (n : ℕ). made + n) (ap (λ (n : ℕ). steps_made I n here) e
+          ∙ ap (λ (o : Progress W). count_from o (steps_made I (steps - made - 1))) is)
 
-      pub goes_further :
-          (there : MachineState W) → step I here ≡ running there → run I (steps - (left - 1)) start ≡ running there
-      goes_further there e =
-          let n : steps - (left - 1) ≡ (steps - left) + 1 = omega arith in
-          ap (λ (k : ℕ). run I k start) n ∙ (next ∙ e)
+    pub ends-here :
+        (end : RunEnd) (there : MachineState W) (outcome : Step) (all : ℕ) → made < steps → outcome ≡ Over end
+        → all ≡ made + 1 → step I here ≡ over end.ending end.place there
+        → record { outcome = outcome; made = all; state = there } ≡ run_at_most I steps start
+    ends-here end there outcome all some told count e =
+        came steps start outcome all there (told ∙ sym (told-here some _ e)) (count ∙ sym (counted-here some _ e))
+        (sym (ap (λ (p : Progress W). state_after p start) (ap (λ (k : ℕ). run I k start) count ∙ (next ∙ e))))
 
-      pub ends-here :
-          (ending : Ending) (place : ℕ) (there : MachineState W) (outcome : Step) (made : ℕ) → outcome ≡ Over ending place
-          → made ≡ (steps - left) + 1 → step I here ≡ over ending place there → Ran I steps start outcome made there
-      ends-here ending place there outcome made told count e = record {
-        tells =
-            told
-            ∙ sym (ap answer_of (from-here ∙ (here_on ∙ ap (λ (p : Progress W). proceed p (run I (left - 1))) e)));
-        counts =
-            count
-            ∙ sym (made-from-here
-            ∙ ap (λ (n : ℕ). (steps - left) + n)
-            (made-here ∙ ap (λ (p : Progress W). count_from p (steps_made I (left - 1))) e));
-        leaves =
-            sym (ap (λ (p : Progress W). state_after p start) (ap (λ (k : ℕ). run I k start) count ∙ (next ∙ e)));
-      }
-
-      pub stays_here :
-          (there : MachineState W) (made : ℕ) → there ≡ here → made ≡ steps - left → step I here ≡ undefined
-          → Ran I steps start Undefined made there
-      stays_here there made stays count e = record {
-        tells =
-            sym (ap answer_of (from-here ∙ (here_on ∙ ap (λ (p : Progress W). proceed p (run I (left - 1))) e)));
-        counts =
-            let none : (steps - left) + 0 ≡ steps - left = omega arith in
-            count
-            ∙ sym (made-from-here
-            ∙ (ap (λ (n : ℕ). (steps - left) + n)
-            (made-here ∙ ap (λ (p : Progress W). count_from p (steps_made I (left - 1))) e)
-            ∙ none));
-        leaves =
-            stays
-            ∙ sym (ap (λ (p : Progress W). state_after p start) (ap (λ (k : ℕ). run I k start) count ∙ reached));
-      }
+    pub stays_here :
+        (there : MachineState W) → made < steps → there ≡ here → step I here ≡ undefined
+        → record { outcome = Undefined; made = made; state = there } ≡ run_at_most I steps start
+    stays_here there some stays e =
+        let count : made + 0 ≡ made = omega arith in
+        came steps start Undefined made there (sym (told-here some _ e)) (sym (counted-here some _ e ∙ count))
+        (stays ∙ sym (ap (λ (p : Progress W). state_after p start) reached))
 
     -- no step is left
-    pub pauses-here : left ≡ 0 → Ran I steps start Running steps here
-    pauses-here e =
-        let n : steps - left ≡ steps = omega arith in
+    pub pauses-here : steps ≤ made → record { outcome = Running; made = steps; state = here } ≡ run_at_most I steps start
+    pauses-here none =
+        let n : made ≡ steps = omega arith in
         let all : run I steps start ≡ running here = ap (λ (k : ℕ). run I k start) (sym n) ∙ reached in
-        record {
-          tells = sym (ap answer_of all);
-          counts = sym (made-running steps start here all);
-          leaves = sym (ap (λ (p : Progress W). state_after p start) all);
-        }
+        came steps start Running steps here (sym (ap answer_of all)) (sym (made-running steps start here all))
+        (sym (ap (λ (p : Progress W). state_after p start) all))
 
 pub in_pieces : {W : Type 0} → InPieces W
 in_pieces I a b m = record { whole = run-add I a b m; count = made-add I a b m }
 
--- ---- what a machine runs on, as long as depth, globals and what bays hold stay
+-- ---- a step of the code, on what the run began on: depth, globals and what bays hold have stayed since
 
-pub image-kept :
+pub from_start :
     {W : Type 0} (kind : Kind W) (holds holds' : W → Bool) (code : List Instruction) (entries : List FunctionEntry)
-    (m n : Machine) → holds' ≡ holds → n.depth ≡ m.depth → n.globals ≡ m.globals
-    → image_of kind holds' code entries n ≡ image_of kind holds code entries m
-image-kept kind holds holds' code entries m n h d g = cc
-
-pub step_kept :
-    {W : Type 0} (I J : Image W) (here : MachineState W) (p : Progress W) → J ≡ I → step J here ≡ p → step I here ≡ p
-step_kept I J here p e q = sym (ap (λ (K : Image _). step K here) e) ∙ q
+    (start m n : Machine) (words bays words' bays' : List W) (answer : Step)
+    → holds' ≡ holds → m.depth ≡ start.depth → m.globals ≡ start.globals
+    → Makes (step (image_of kind holds' code entries m)) m words bays answer n words' bays'
+    → Makes (step (image_of kind holds code entries start)) m words bays answer n words' bays'
+from_start kind holds holds' code entries start m n words bays words' bays' answer h d g makes =
+    let same : image_of kind holds' code entries m ≡ image_of kind holds code entries start = cc in
+    subst (λ (I : Image _). Makes (step I) m words bays answer n words' bays') same makes

@@ -1,9 +1,8 @@
 -- What the code's step and run tell and leave, by the definition's progress.
-use Rattle.std.specs.Prelude.{◌≡◌, ℕ, zero, suc, ◌+◌, ◌-◌, Bool, true, false, List, [], Some, None, Option, nat_lt}
-use Rattle.code.specs.declared.instruction.FunctionEntry.{FunctionEntry}
+use Rattle.std.specs.Prelude.{◌≡◌, ℕ, zero, suc, ◌+◌, Bool, true, false, List, [], Some, None, Option, nat_lt}
 use Rattle.kinds.specs.Kinds.{Kind}
-use Rattle.racks.specs.declared.rack.BayFault.{BayFault}
 use Rattle.script.specs.declared.ending.Ending.{Ending}
+use Rattle.machine.specs.declared.outcome.Run.{Run}
 use Rattle.machine.specs.declared.outcome.Step.{Step}
 use Rattle.machine.specs.declared.outcome.Step.TheVariants.{Running, Over, Undefined}
 use Rattle.machine.specs.declared.state.Machine.{Machine}
@@ -13,7 +12,7 @@ use Rattle.machine.specs.Machine.{step, run, proceed, state_of, image_of}
 -- What the code tells of a progress.
 abbrev pub answer_of : {W : Type 0} → Progress W → Step
 answer_of (running after) = Running
-answer_of (over e place after) = Over e place
+answer_of (over e place after) = Over (record { ending = e; place = place })
 answer_of undefined = Undefined
 
 -- The state that a progress leaves: what the table does not define changes nothing.
@@ -32,30 +31,32 @@ pub record Makes {W : Type 0} (instruction : MachineState W → Progress W) (bef
   pub depth : after.depth ≡ before.depth
   pub globals : after.globals ≡ before.globals
 
--- The same of an instruction that concerns no bay, whatever the bays hold; and of one that concerns no word either.
+-- The program counter moves on before an instruction, and back where the machine does not go on.
+abbrev pub moved_back : Step → ℕ → Machine → Machine
+moved_back Running pc m = m
+moved_back (Over end) pc m = record m { pc = pc }
+moved_back Undefined pc m = record m { pc = pc }
+
+-- The same of a machine whose program counter has moved on, from any pc, and is yet to move back.
+abbrev pub MakesMoved :
+    {W : Type 0} → (MachineState W → Progress W) → Machine → List W → List W → Step → Machine → List W → List W → Type 0
+MakesMoved instruction before words bays answer after words' bays' =
+    (pc : ℕ) → before.pc ≡ pc + 1
+    → Makes instruction (record before { pc = pc }) words bays answer (moved_back answer pc after) words' bays'
+
+-- And of an instruction that concerns no bay, whatever the bays hold; and of one that concerns no word either.
 abbrev pub MakesOnWords :
     {W : Type 0} → (MachineState W → Progress W) → Machine → List W → Step → Machine → List W → Type 0
 MakesOnWords {W = W} instruction before words answer after words' =
-    (bays : List W) → Makes instruction before words bays answer after words' bays
+    (bays : List W) → MakesMoved instruction before words bays answer after words' bays
 
 abbrev pub MakesAlone : {W : Type 0} → (MachineState W → Progress W) → Machine → Step → Machine → Type 0
 MakesAlone {W = W} instruction before answer after =
-    (words bays : List W) → Makes instruction before words bays answer after words bays
+    (words bays : List W) → MakesMoved instruction before words bays answer after words bays
 
 -- What an instruction that concerns no bay and no code runs on: the kind and the machine's own limits.
 abbrev pub word_image : {W : Type 0} → Kind W → Machine → Image W
 word_image kind m = image_of kind (λ _. false) [] [] m
-
--- Only the height and the next instruction of a machine have changed.
-pub record MovedTo (before after : Machine) (h p : ℕ) : Type 0 where
-  pub height : after.height ≡ h
-  pub pc : after.pc ≡ p
-  pub base : after.base ≡ before.base
-  pub fuel : after.fuel ≡ before.fuel
-  pub globals : after.globals ≡ before.globals
-  pub depth : after.depth ≡ before.depth
-  pub calls : after.calls ≡ before.calls
-  pub frames : after.frames ≡ before.frames
 
 -- How a call ends a run, if it does: no more calls may be open, which is tested first, or there is no fuel.
 abbrev pub refused_by : Bool → ℕ → Option Ending
@@ -65,22 +66,6 @@ refused_by true (suc n) = None
 
 abbrev pub call_refused : Machine → Option Ending
 call_refused m = refused_by (nat_lt m.calls m.depth) m.fuel
-
--- A function has been entered, for one fuel: its frame starts at its first argument.
-pub record Entered (before after : Machine) (f : FunctionEntry) : Type 0 where
-  pub pc : after.pc ≡ f.start
-  pub base : after.base ≡ before.height - f.parameters
-  pub height : after.height ≡ before.height
-  pub fuel : after.fuel ≡ before.fuel - 1
-  pub globals : after.globals ≡ before.globals
-  pub depth : after.depth ≡ before.depth
-  pub calls : after.calls ≡ before.calls
-  pub frames : after.frames ≡ before.frames
-
--- How a run ends that a rack refuses.
-abbrev pub ending_of : BayFault → Ending
-ending_of BayFault.NoSuchBay = Ending.NoSuchBay
-ending_of BayFault.CannotHold = Ending.CannotHold
 
 -- ---- runs
 
@@ -95,13 +80,24 @@ unfoldable pub steps_made : {W : Type 0} → Image W → ℕ → MachineState W 
 steps_made I zero m = 0
 steps_made I (suc n) m = count_from (step I m) (steps_made I n)
 
--- A run of at most so many steps, from a state: its outcome is that of the definition's run, the steps it made are
--- those, and it leaves the state after them. So where it meets an undefined step it stays where that stands.
-pub record Ran {W : Type 0} (I : Image W) (steps : ℕ) (before : MachineState W) (outcome : Step) (made : ℕ)
-    (after : MachineState W) : Type 0 where
-  pub tells : outcome ≡ answer_of (run I steps before)
-  pub counts : made ≡ steps_made I steps before
-  pub leaves : after ≡ state_after (run I made before) before
+-- How a run came out, the steps it made, and the state that it leaves.
+pub record Ran (W : Type 0) : Type 0 where
+  pub outcome : Step
+  pub made : ℕ
+  pub state : MachineState W
+
+-- What the code's run tells, with the state that it leaves.
+abbrev pub run_leaving : {W : Type 0} → Run → MachineState W → Ran W
+run_leaving told after = record { outcome = told.outcome; made = told.made; state = after }
+
+-- A run of at most so many steps: it leaves the state after those it made. So where it meets an undefined step it stays
+-- where that stands.
+abbrev pub run_at_most : {W : Type 0} → Image W → ℕ → MachineState W → Ran W
+run_at_most I steps m = record {
+  outcome = answer_of (run I steps m);
+  made = steps_made I steps m;
+  state = state_after (run I (steps_made I steps m) m) m;
+}
 
 -- Steps made after a first piece of a run, which may be over.
 abbrev pub steps_after : {W : Type 0} → Image W → ℕ → Progress W → ℕ

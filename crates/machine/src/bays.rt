@@ -1,25 +1,15 @@
 // Instructions on bays.
-ghost use Rattle.std.specs.Prelude.{◌≡◌, ◌+◌, ◌^◌, ◌<◌, []};
+ghost use Rattle.std.specs.Prelude.{◌≡◌, []};
 ghost use Rattle.code.specs.declared.instruction.Operation.TheVariants.{BayR, BayW};
 ghost use Rattle.machine.specs.Machine.{execute, image_of};
-ghost use Rattle.machine.specs.Steps.{Makes, ending_of};
+ghost use Rattle.machine.specs.Steps.{MakesMoved};
 
 use crate::outcome::Step;
 use crate::state::Machine;
 use kinds::NumberKind;
-use racks::{BayFault, Rack};
-use script::ending::Ending;
+use racks::Rack;
+use script::Ending;
 use stack::Stack;
-
-// How a run ends that a rack refuses.
-fn ending_of(fault: BayFault) -> Ending
-    ensures { result ≡ ending_of fault }
-{
-    match fault {
-        BayFault::NoSuchBay => Ending::NoSuchBay,
-        BayFault::CannotHold => Ending::CannotHold,
-    }
-}
 
 impl Machine {
     // Puts the word of a bay in the place of its slot.
@@ -29,8 +19,7 @@ impl Machine {
         rack: &R,
         place: usize,
     ) -> Step
-        requires { self.old.pc + 1 < 2 ^ 64 }
-        ensures { Makes (execute
+        ensures { MakesMoved (execute
             (image_of R.Word.NumberKind.kind (R.Rack.holds rack.now) [] [] self.old) BayR place)
             self.old words.old (R.Rack.bays rack.now) result
             self.new words.new (R.Rack.bays rack.now) }
@@ -42,13 +31,12 @@ impl Machine {
         let mut stack = Stack::new(words, self.height);
         let named = stack.get(top, <R::Word as NumberKind>::literal(0));
         let Some(slot) = named.slot() else {
-            return Step::Over(Ending::NoSuchBay, place);
+            return Step::over(Ending::NoSuchBay, place);
         };
         let Some(word) = rack.read(slot) else {
-            return Step::Over(Ending::NoSuchBay, place);
+            return Step::over(Ending::NoSuchBay, place);
         };
         stack.put(top, word);
-        self.pc += 1;
         Step::Running
     }
 
@@ -59,8 +47,7 @@ impl Machine {
         rack: &mut R,
         place: usize,
     ) -> Step
-        requires { self.old.pc + 1 < 2 ^ 64 }
-        ensures makes { Makes (execute
+        ensures makes { MakesMoved (execute
             (image_of R.Word.NumberKind.kind (R.Rack.holds rack.old) [] [] self.old) BayW place)
             self.old words.old (R.Rack.bays rack.old) result
             self.new words.new (R.Rack.bays rack.new) }
@@ -72,10 +59,10 @@ impl Machine {
         }
         let (named, word) = self.operands(words);
         let Some(slot) = named.slot() else {
-            return Step::Over(Ending::NoSuchBay, place);
+            return Step::over(Ending::NoSuchBay, place);
         };
         if let Err(fault) = rack.write(slot, word) {
-            return Step::Over(ending_of(fault), place);
+            return Step::over(Ending::from(fault), place);
         }
         self.replace_two(words, word);
         Step::Running

@@ -1,25 +1,16 @@
 // Instructions on fuel, calls and the program counter.
-ghost use Rattle.std.specs.Prelude.{◌≡◌, ◌+◌, ◌-◌, ◌^◌, ◌<◌, ◌≤◌, false, [], length, Some, OnSome, slice_index_or, slice_set};
+ghost use Rattle.std.specs.Prelude.{◌≡◌, ◌<◌, false, [], Some, slice_set};
 ghost use Rattle.std.specs.List.{slice_get};
-ghost use Rattle.kinds.specs.Words.{zero_word};
 ghost use Rattle.code.specs.declared.instruction.Operation.TheVariants.{Jmp, Tick, Call, Ret, Halt};
 ghost use Rattle.machine.specs.Machine.{execute, image_of};
-ghost use Rattle.machine.specs.Steps.{MakesOnWords, MakesAlone, MovedTo, Entered, call_refused, word_image};
+ghost use Rattle.machine.specs.Steps.{MakesOnWords, MakesAlone, call_refused, word_image};
 
 use crate::outcome::Step;
 use crate::state::{Frame, Frames, Machine};
 use code::instruction::FunctionEntry;
 use kinds::NumberKind;
-use script::ending::Ending;
+use script::{Ending, RunEnd};
 use stack::Stack;
-
-// The element at `i`, if there is one.
-pub(crate) fn element<T: Copy>(list: &[T], i: usize) -> Option<T>
-    ensures value { result ≡ slice_get list.now i }
-    ensures bound { OnSome result (i < length list.now) }
-{
-    if i < list.len() { Some(list[i]) } else { None }
-}
 
 impl Frames {
     // Writes record `i`, and no other.
@@ -49,15 +40,13 @@ impl Machine {
 
     // Spends one fuel.
     pub(crate) fn tick<W: NumberKind>(&mut self, place: usize) -> Step
-        requires { self.old.pc + 1 < 2 ^ 64 }
         ensures { MakesAlone (execute (word_image W.NumberKind.kind self.old) Tick place)
             self.old result self.new }
     {
         if self.fuel == 0 {
-            return Step::Over(Ending::NoFuel, place);
+            return Step::over(Ending::NoFuel, place);
         }
         self.fuel -= 1;
-        self.pc += 1;
         Step::Running
     }
 
@@ -74,60 +63,36 @@ impl Machine {
         None
     }
 
-    // Enters a function, for one fuel.
-    fn enter(&mut self, function: FunctionEntry)
-        requires fuel { 0 < self.old.fuel }
-        requires arguments { function.parameters ≤ self.old.height }
-        ensures { Entered self.old self.new function }
-    {
-        self.fuel -= 1;
-        self.base = self.height - function.parameters;
-        self.pc = function.start;
-    }
-
-    // Calls a function whose arguments are on the stack.
+    // Calls a function whose arguments are on the stack, for one fuel: its frame starts at its first argument.
     pub(crate) fn call<W: NumberKind>(
         &mut self,
         entries: &[FunctionEntry],
         f: usize,
         place: usize,
     ) -> Step
-        requires { self.old.pc + 1 < 2 ^ 64 }
         ensures { MakesAlone (execute
             (image_of W.NumberKind.kind (λ _. false) [] entries.now self.old) (Call f) place)
             self.old result self.new }
     {
-        let Some(function) = element(entries, f) else {
+        let Some(function) = entries.get(f).copied() else {
             return Step::Undefined;
         };
         if function.parameters > self.height {
             return Step::Undefined;
         }
         if let Some(ending) = self.call_refused() {
-            return Step::Over(ending, place);
+            return Step::Over(RunEnd { ending, place });
         }
         let caller = Frame {
-            return_to: self.pc + 1,
+            return_to: self.pc,
             base: self.base,
         };
         self.frames.note(self.calls, caller);
         self.calls += 1;
-        self.enter(function);
+        self.fuel -= 1;
+        self.base = self.height - function.parameters;
+        self.pc = function.start;
         Step::Running
-    }
-
-    // Cuts the stack to the frame's start and puts the result there.
-    fn cut_frame<W: NumberKind + Copy>(&mut self, words: &mut [W])
-        requires { self.old.base < self.old.height }
-        ensures words { words.new ≡ slice_set words.old self.old.base
-            (slice_index_or words.old (self.old.height - 1) (zero_word W.NumberKind.kind)) }
-        ensures machine { MovedTo self.old self.new
-            (self.old.base + 1) self.old.pc }
-    {
-        let mut stack = Stack::new(words, self.height);
-        let result = stack.pop(W::literal(0));
-        stack.put(self.base, result);
-        self.height = self.base + 1;
     }
 
     // Returns to the caller: the result takes the place of the frame.
@@ -142,7 +107,8 @@ impl Machine {
             return Step::Undefined;
         }
         let caller = self.frames.at(self.calls - 1);
-        self.cut_frame(words);
+        self.copy_top(words, self.base);
+        self.height = self.base + 1;
         self.calls -= 1;
         self.base = caller.base;
         self.pc = caller.return_to;
@@ -157,10 +123,8 @@ impl Machine {
         if self.globals >= self.height {
             return Step::Undefined;
         }
-        let mut stack = Stack::new(words, self.height);
-        let answer = stack.pop(W::literal(0));
-        stack.put(self.globals, answer);
-        self.height = stack.height();
-        Step::Over(Ending::Done, 0)
+        self.copy_top(words, self.globals);
+        self.height -= 1;
+        Step::over(Ending::Done, 0)
     }
 }

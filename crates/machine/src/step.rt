@@ -1,30 +1,31 @@
-// Steps and runs of the machine.
+// Steps and runs of the machine. Words and rack stay two parameters: they are lent by two owners, and a struct of both
+// would be built anew at each call.
 ghost use Rattle.std.specs.Prelude.{◌≡◌, ◌+◌, ◌^◌, ◌<◌, List};
 ghost use Rattle.machine.specs.Machine.{execute, step, image_of, state_of};
-ghost use Rattle.machine.specs.Steps.{Makes, Ran, InPieces};
+ghost use Rattle.machine.specs.Steps.{Makes, MakesMoved, run_leaving, run_at_most, InPieces};
 
-use crate::calls::element;
 use crate::outcome::{Run, Step};
 use crate::state::Machine;
-use code::instruction::{FunctionEntry, Instruction, Operation};
+use crate::words::truth;
+use code::instruction::{Code, FunctionEntry, Instruction, Operation};
 use kinds::NumberKind;
 use racks::Rack;
-use script::ending::Ending;
+use script::RunEnd;
 
 // The run that an instruction ended after some steps: it counts as one.
-fn ended(ending: Ending, place: usize, before: u32) -> Run
+fn ended(end: RunEnd, before: u32) -> Run
     requires { before + 1 < 2 ^ 32 }
-    ensures outcome { result.outcome ≡ Step.Over ending place }
+    ensures outcome { result.outcome ≡ Step.Over end }
     ensures made { result.made ≡ before + 1 }
 {
     Run {
-        outcome: Step::Over(ending, place),
+        outcome: Step::Over(end),
         made: before + 1,
     }
 }
 
 impl Machine {
-    // One instruction of the table.
+    // One instruction of the table, once the program counter is moved on.
     fn execute<R: Rack>(
         &mut self,
         words: &mut [R::Word],
@@ -32,8 +33,7 @@ impl Machine {
         entries: &[FunctionEntry],
         instruction: Instruction,
     ) -> Step
-        requires { self.old.pc + 1 < 2 ^ 64 }
-        ensures makes { («code» : List Instruction) → Makes (execute
+        ensures makes { («code» : List Instruction) → MakesMoved (execute
             (image_of R.Word.NumberKind.kind (R.Rack.holds rack.old) «code» entries.now
             self.old) instruction.operation instruction.place)
             self.old words.old (R.Rack.bays rack.old) result
@@ -47,9 +47,9 @@ impl Machine {
             Operation::SetL(slot) => self.set_local(words, slot),
             Operation::GetG(slot) => self.fetch_word(words, slot),
             Operation::SetG(slot) => self.store_word(words, slot),
-            Operation::Add => self.add(words),
-            Operation::Sub => self.subtract(words),
-            Operation::Gt => self.compare(words),
+            Operation::Add => self.combine(words, |x: R::Word, y: R::Word| x.sum(y)),
+            Operation::Sub => self.combine(words, |x: R::Word, y: R::Word| x.difference(y)),
+            Operation::Gt => self.combine(words, |x: R::Word, y: R::Word| truth(x.greater(y))),
             Operation::Pop => self.drop_word::<R::Word>(),
             Operation::Jz(target) => self.jump_on_zero(words, target),
             Operation::Jmp(target) => self.jump::<R::Word>(target),
@@ -63,25 +63,26 @@ impl Machine {
     }
 
     // One step. What the instruction table does not define changes nothing.
-    pub fn step<R: Rack>(
-        &mut self,
-        words: &mut [R::Word],
-        rack: &mut R,
-        code: &[Instruction],
-        entries: &[FunctionEntry],
-    ) -> Step
+    pub fn step<R: Rack>(&mut self, words: &mut [R::Word], rack: &mut R, code: Code<'_>) -> Step
         ensures makes { Makes (step
-            (image_of R.Word.NumberKind.kind (R.Rack.holds rack.old) code.now
-            entries.now self.old))
+            (image_of R.Word.NumberKind.kind (R.Rack.holds rack.old) code.entry.instructions.now
+            code.entry.entries.now self.old))
             self.old words.old (R.Rack.bays rack.old) result
             self.new words.new (R.Rack.bays rack.new) }
         ensures holds { R.Rack.holds rack.new ≡ R.Rack.holds rack.old }
         ensures loan { R.Rack.loan rack.new ≡ R.Rack.loan rack.old }
     {
-        let Some(instruction) = element(code, self.pc) else {
+        let Some(instruction) = code.instructions.get(self.pc).copied() else {
             return Step::Undefined;
         };
-        self.execute(words, rack, entries, instruction)
+        let here = self.pc;
+        self.pc += 1;
+        let step = self.execute(words, rack, code.entries, instruction);
+        match step {
+            Step::Running => {}
+            Step::Over(_) | Step::Undefined => self.pc = here,
+        }
+        step
     }
 
     // At most `steps` steps: the run stops where it is over, which counts as a step, and stays at an undefined one.
@@ -89,30 +90,27 @@ impl Machine {
         &mut self,
         words: &mut [R::Word],
         rack: &mut R,
-        code: &[Instruction],
-        entries: &[FunctionEntry],
+        code: Code<'_>,
         steps: u32,
     ) -> Run
-        ensures ran { Ran
-            (image_of R.Word.NumberKind.kind (R.Rack.holds rack.old) code.now
-            entries.now self.old) steps
-            (state_of self.old words.old (R.Rack.bays rack.old))
-            result.outcome result.made
-            (state_of self.new words.new (R.Rack.bays rack.new)) }
+        ensures ran { run_leaving result (state_of self.new words.new (R.Rack.bays rack.new))
+            ≡ run_at_most
+            (image_of R.Word.NumberKind.kind (R.Rack.holds rack.old) code.entry.instructions.now
+            code.entry.entries.now self.old) steps
+            (state_of self.old words.old (R.Rack.bays rack.old)) }
         ensures depth { self.new.depth ≡ self.old.depth }
         ensures globals { self.new.globals ≡ self.old.globals }
         ensures holds { R.Rack.holds rack.new ≡ R.Rack.holds rack.old }
         ensures loan { R.Rack.loan rack.new ≡ R.Rack.loan rack.old }
     {
-        let mut left = steps;
-        while left > 0 {
-            match self.step(words, rack, code, entries) {
-                Step::Running => left -= 1,
-                Step::Over(ending, place) => return ended(ending, place, steps - left),
+        for made in 0..steps {
+            match self.step(words, rack, code) {
+                Step::Running => {}
+                Step::Over(end) => return ended(end, made),
                 Step::Undefined => {
                     return Run {
                         outcome: Step::Undefined,
-                        made: steps - left,
+                        made,
                     };
                 }
             }
@@ -125,8 +123,6 @@ impl Machine {
 }
 
 // A run in two pieces is the run at once, at the words of every rack and whatever its bays hold.
-pub fn pieces_stand<R: Rack>(_rack: &R) -> u8
+pub fn pieces_stand<R: Rack>(_rack: &R)
     ensures { InPieces R.Word }
-{
-    0
-}
+{}

@@ -1,7 +1,8 @@
 use crate::outcome::{Run, Step};
 use crate::state::Machine;
-use code::instruction::{FunctionEntry, Instruction, Operation};
+use code::instruction::{Code, FunctionEntry, Instruction, Operation};
 use racks::{BayTable, OccupancyRack, Rack, RailRack};
+use script::Ending;
 
 fn at(place: usize, operation: Operation) -> Instruction {
     Instruction { operation, place }
@@ -43,17 +44,17 @@ const NEXT: FunctionEntry = FunctionEntry {
     parameters: 0,
 };
 
-fn over(run: Run, ending: u8, place: usize, made: u32) -> bool {
-    match run.outcome {
-        Step::Over(e, p) => e.number() == ending && p == place && run.made == made,
-        _ => false,
+fn over(ending: Ending, place: usize, made: u32) -> Run {
+    Run {
+        outcome: Step::over(ending, place),
+        made,
     }
 }
 
-fn paused(run: Run, made: u32) -> bool {
-    match run.outcome {
-        Step::Running => run.made == made,
-        _ => false,
+fn paused(made: u32) -> Run {
+    Run {
+        outcome: Step::Running,
+        made,
     }
 }
 
@@ -61,16 +62,15 @@ fn paused(run: Run, made: u32) -> bool {
 fn bay_table_in_pieces(rt: HostRuntime) {
     let mut rack = BayTable::new(3);
     let mut words = [0; 7];
-    let code = mark_bays();
+    let code = Code {
+        instructions: &mark_bays(),
+        entries: &[NEXT],
+    };
     let mut machine = Machine::new(1, 1, 8);
-    assert!(rt; paused(machine.run(&mut words, &mut rack, &code, &[NEXT], 40), 40));
-    assert!(rt;
-        over(
-            machine.run(&mut words, &mut rack, &code, &[NEXT], 100),
-            0,
-            0,
-            47,
-        )
+    assert_eq!(rt; machine.run(&mut words, &mut rack, code, 40), paused(40));
+    assert_eq!(rt;
+        machine.run(&mut words, &mut rack, code, 100),
+        over(Ending::Done, 0, 47)
     );
     assert!(rt; words[0] == 4 && words[1] == 0 && machine.fuel == 0);
     assert_eq!(rt; rack.read(2), Some(1));
@@ -80,43 +80,44 @@ fn bay_table_in_pieces(rt: HostRuntime) {
 fn occupancy_endings(rt: HostRuntime) {
     let mut rack = OccupancyRack::new(2);
     let mut words = [0; 7];
-    let code = mark_bays();
+    let code = Code {
+        instructions: &mark_bays(),
+        entries: &[NEXT],
+    };
     let mut short = Machine::new(1, 1, 8);
-    assert!(rt;
-        over(
-            short.run(&mut words, &mut rack, &code, &[NEXT], 100),
-            3,
-            16,
-            67,
-        )
+    assert_eq!(rt;
+        short.run(&mut words, &mut rack, code, 100),
+        over(Ending::NoSuchBay, 16, 67)
     );
     words[0] = 0;
     let mut shallow = Machine::new(1, 0, 1);
-    assert!(rt;
-        over(
-            shallow.run(&mut words, &mut rack, &code, &[NEXT], 100),
-            2,
-            14,
-            4,
-        )
+    assert_eq!(rt;
+        shallow.run(&mut words, &mut rack, code, 100),
+        over(Ending::TooDeep, 14, 4)
     );
     assert!(rt; shallow.fuel == 0);
 }
 
 #[test]
 fn rail_difference(rt: HostRuntime) {
-    let code = [
-        at(1, Operation::Lit(0)),
-        at(2, Operation::Lit(2)),
-        at(3, Operation::Lit(3)),
-        at(4, Operation::Sub),
-        at(5, Operation::BayW),
-        at(6, Operation::Halt),
-    ];
+    let code = Code {
+        instructions: &[
+            at(1, Operation::Lit(0)),
+            at(2, Operation::Lit(2)),
+            at(3, Operation::Lit(3)),
+            at(4, Operation::Sub),
+            at(5, Operation::BayW),
+            at(6, Operation::Halt),
+        ],
+        entries: &[],
+    };
     let mut floats = [0.5; 1];
     let mut rack = RailRack::new(&mut floats);
     let mut words = [0.0; 3];
     let mut machine = Machine::new(0, 0, 0);
-    assert!(rt; over(machine.run(&mut words, &mut rack, &code, &[], 9), 0, 0, 6));
+    assert_eq!(rt;
+        machine.run(&mut words, &mut rack, code, 9),
+        over(Ending::Done, 0, 6)
+    );
     assert!(rt; words[0] == -1.0 && floats[0] == -1.0);
 }

@@ -1,9 +1,9 @@
 // Instructions on the words of the stack.
-ghost use Rattle.std.specs.Prelude.{◌≡◌, suc, ◌+◌, ◌-◌, ◌^◌, ◌<◌, ◌≤◌, slice_index_or, slice_set};
+ghost use Rattle.std.specs.Prelude.{◌≡◌, suc, ◌-◌, ◌≤◌, slice_index_or, slice_set};
 ghost use Rattle.kinds.specs.Words.{zero_word, truth_word};
-ghost use Rattle.code.specs.declared.instruction.Operation.TheVariants.{GetL, SetL, Add, Sub, Gt, Pop, Jz};
-ghost use Rattle.machine.specs.Machine.{execute, push, fetch_word, store_word};
-ghost use Rattle.machine.specs.Steps.{MakesOnWords, MakesAlone, MovedTo, word_image};
+ghost use Rattle.code.specs.declared.instruction.Operation.TheVariants.{GetL, SetL, Pop, Jz};
+ghost use Rattle.machine.specs.Machine.{execute, push, fetch_word, store_word, combine};
+ghost use Rattle.machine.specs.Steps.{MakesOnWords, MakesAlone, word_image};
 
 use crate::outcome::Step;
 use crate::state::Machine;
@@ -11,7 +11,7 @@ use kinds::NumberKind;
 use stack::Stack;
 
 // A test as a word.
-fn truth<W: NumberKind>(test: bool) -> W
+pub(crate) fn truth<W: NumberKind>(test: bool) -> W
     ensures { result ≡ truth_word W.NumberKind.kind test }
 {
     if test { W::literal(1) } else { W::literal(0) }
@@ -20,7 +20,6 @@ fn truth<W: NumberKind>(test: bool) -> W
 impl Machine {
     // Pushes a word; a full store takes none.
     pub(crate) fn push<W: NumberKind + Copy>(&mut self, words: &mut [W], word: W) -> Step
-        requires { self.old.pc + 1 < 2 ^ 64 }
         ensures { MakesOnWords (push word) self.old words.old result
             self.new words.new }
     {
@@ -30,13 +29,11 @@ impl Machine {
         let mut stack = Stack::new(words, self.height);
         stack.push(word);
         self.height = stack.height();
-        self.pc += 1;
         Step::Running
     }
 
     // Pushes word `i` of the stack.
     pub(crate) fn fetch_word<W: NumberKind + Copy>(&mut self, words: &mut [W], i: usize) -> Step
-        requires { self.old.pc + 1 < 2 ^ 64 }
         ensures { MakesOnWords (fetch_word (word_image W.NumberKind.kind self.old) i)
             self.old words.old result self.new words.new }
     {
@@ -48,9 +45,18 @@ impl Machine {
         self.push(words, word)
     }
 
+    // Copies the top into word `i`.
+    pub(crate) fn copy_top<W: NumberKind + Copy>(&self, words: &mut [W], i: usize)
+        ensures { words.new ≡ slice_set words.old i
+            (slice_index_or words.old (self.now.height - 1) (zero_word W.NumberKind.kind)) }
+    {
+        let mut stack = Stack::new(words, self.height);
+        let top = stack.pop(W::literal(0));
+        stack.put(i, top);
+    }
+
     // Stores the top, which stays, in word `i` under it.
     pub(crate) fn store_word<W: NumberKind + Copy>(&mut self, words: &mut [W], i: usize) -> Step
-        requires { self.old.pc + 1 < 2 ^ 64 }
         ensures { MakesOnWords (store_word (word_image W.NumberKind.kind self.old) i)
             self.old words.old result self.new words.new }
     {
@@ -58,16 +64,12 @@ impl Machine {
         if i >= top {
             return Step::Undefined;
         }
-        let mut stack = Stack::new(words, self.height);
-        let word = stack.get(top, W::literal(0));
-        stack.put(i, word);
-        self.pc += 1;
+        self.copy_top(words, i);
         Step::Running
     }
 
     // Pushes a slot of the frame.
     pub(crate) fn get_local<W: NumberKind + Copy>(&mut self, words: &mut [W], slot: usize) -> Step
-        requires { self.old.pc + 1 < 2 ^ 64 }
         ensures { MakesOnWords (execute (word_image W.NumberKind.kind self.old) (GetL slot) 0)
             self.old words.old result self.new words.new }
     {
@@ -79,7 +81,6 @@ impl Machine {
 
     // Stores the top, which stays, in a slot of the frame.
     pub(crate) fn set_local<W: NumberKind + Copy>(&mut self, words: &mut [W], slot: usize) -> Step
-        requires { self.old.pc + 1 < 2 ^ 64 }
         ensures { MakesOnWords (execute (word_image W.NumberKind.kind self.old) (SetL slot) 0)
             self.old words.old result self.new words.new }
     {
@@ -107,60 +108,37 @@ impl Machine {
 
     // Puts a word in the place of the two topmost ones.
     pub(crate) fn replace_two<W: NumberKind + Copy>(&mut self, words: &mut [W], word: W)
-        requires next { self.old.pc + 1 < 2 ^ 64 }
-        requires two { 2 ≤ self.old.height }
+        requires { 2 ≤ self.old.height }
         ensures words { words.new ≡ slice_set words.old (self.old.height - 2) word }
-        ensures machine { MovedTo self.old self.new
-            (suc (self.old.height - 2)) (suc self.old.pc) }
+        ensures machine { self.new ≡ record self.old { height = self.old.height - 1 } }
     {
         let mut stack = Stack::new(words, self.height);
         stack.put(self.height - 2, word);
         self.height -= 1;
-        self.pc += 1;
     }
 
-    pub(crate) fn add<W: NumberKind + Copy>(&mut self, words: &mut [W]) -> Step
-        requires { self.old.pc + 1 < 2 ^ 64 }
-        ensures { MakesOnWords (execute (word_image W.NumberKind.kind self.old) Add 0)
+    // Puts what `f` makes of the two topmost words in their place.
+    pub(crate) fn combine<W: NumberKind + Copy, F: FnOnce(W, W) -> W>(
+        &mut self,
+        words: &mut [W],
+        f: F,
+    ) -> Step
+        requires { F.IsAlwaysCallable f }
+        ensures { (made : W → W → W)
+            → ((x y z : W) → F.post f x y z → z ≡ made x y)
+            → MakesOnWords (combine (word_image W.NumberKind.kind self.old) made)
             self.old words.old result self.new words.new }
     {
         if self.height < 2 {
             return Step::Undefined;
         }
         let (first, second) = self.operands(words);
-        self.replace_two(words, first.sum(second));
-        Step::Running
-    }
-
-    pub(crate) fn subtract<W: NumberKind + Copy>(&mut self, words: &mut [W]) -> Step
-        requires { self.old.pc + 1 < 2 ^ 64 }
-        ensures { MakesOnWords (execute (word_image W.NumberKind.kind self.old) Sub 0)
-            self.old words.old result self.new words.new }
-    {
-        if self.height < 2 {
-            return Step::Undefined;
-        }
-        let (first, second) = self.operands(words);
-        self.replace_two(words, first.difference(second));
-        Step::Running
-    }
-
-    pub(crate) fn compare<W: NumberKind + Copy>(&mut self, words: &mut [W]) -> Step
-        requires { self.old.pc + 1 < 2 ^ 64 }
-        ensures { MakesOnWords (execute (word_image W.NumberKind.kind self.old) Gt 0)
-            self.old words.old result self.new words.new }
-    {
-        if self.height < 2 {
-            return Step::Undefined;
-        }
-        let (first, second) = self.operands(words);
-        self.replace_two(words, truth(first.greater(second)));
+        self.replace_two(words, f(first, second));
         Step::Running
     }
 
     // Takes the top off.
     pub(crate) fn drop_word<W: NumberKind>(&mut self) -> Step
-        requires { self.old.pc + 1 < 2 ^ 64 }
         ensures { MakesAlone (execute (word_image W.NumberKind.kind self.old) Pop 0)
             self.old result self.new }
     {
@@ -168,7 +146,6 @@ impl Machine {
             return Step::Undefined;
         }
         self.height -= 1;
-        self.pc += 1;
         Step::Running
     }
 
@@ -178,7 +155,6 @@ impl Machine {
         words: &mut [W],
         target: usize,
     ) -> Step
-        requires { self.old.pc + 1 < 2 ^ 64 }
         ensures { MakesOnWords (execute (word_image W.NumberKind.kind self.old) (Jz target) 0)
             self.old words.old result self.new words.new }
     {
@@ -188,7 +164,9 @@ impl Machine {
         let mut stack = Stack::new(words, self.height);
         let test = stack.pop(W::literal(0));
         self.height = stack.height();
-        self.pc = if test.is_zero() { target } else { self.pc + 1 };
+        if test.is_zero() {
+            self.pc = target;
+        }
         Step::Running
     }
 }

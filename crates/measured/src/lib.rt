@@ -1,7 +1,7 @@
 // One fixed script on the machine, to be called from outside: bench/ measures it.
 #![tactic(auto)]
 
-use code::instruction::{Instruction, Operation};
+use code::instruction::{Code, Instruction, Operation};
 use machine::state::Machine;
 use racks::BayTable;
 
@@ -34,7 +34,9 @@ pub fn tuzsompa_counting_steps(fuel: u32, steps: u32) -> u32 {
     let mut words = [0i32; 16];
     let mut bays = BayTable::new(1);
     let mut machine = Machine::new(1, 0, fuel);
-    machine
-        .run(&mut words, &mut bays, COUNTING, &[], steps)
-        .made
+    let code = Code {
+        instructions: COUNTING,
+        entries: &[],
+    };
+    machine.run(&mut words, &mut bays, code, steps).made
 }

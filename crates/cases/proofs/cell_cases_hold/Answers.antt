@@ -5,11 +5,12 @@ use Rattle.std.specs.Int.{int_wrap}
 use Rattle.script.specs.Rows.{row_of}
 use Rattle.script.specs.Shape.{consume}
 use Rattle.syntax.specs.Trees.{forest}
-use Rattle.machine.specs.Budget.{run_at_most}
+use Rattle.machine.specs.Machine.{run}
+use Rattle.machine.specs.Steps.{steps_made}
 use Rattle.cases.proofs.cell_cases_hold.Goals as goal
 
 pub returns : goal.returns
-unfolding row_of forest consume int_wrap run_at_most add of_int
+unfolding row_of forest consume int_wrap run steps_made add of_int
 returns c = record {
   end_bay_code_length = refl;
   end_bay_words_wanted = refl;

@@ -1,6 +1,5 @@
 -- One literal more a turn, and at the end all of them.
-use Rattle.std.proofs.Common.{◌≡◌, ℕ, List, ◌++◌, map, length, get_or, take, drop, set, ℤ, pos, sym, ap, ◌∙◌, add-one, arith, w32, SFits, rules}
-use Rattle.std.proofs.lemmas.List.{take_all}
+use Rattle.std.proofs.Common.{◌≡◌, ℕ, List, ◌++◌, map, get_or, take, drop, set, ℤ, pos, sym, ap, ◌∙◌, add-one, w32, SFits, rules}
 use Rattle.std.proofs.lemmas.Int.{to_z-of_z}
 use Rattle.cell.proofs.Literals.{one_more}
 use Rattle.cell.proofs.arming.write_literals.Goals as goal
@@ -16,13 +15,3 @@ loop-i-preserved g c =
     (λ t. set (c.loop-i.invariant t) i (written t))
     ∙ one_more literal numbers c.args.words.now i (pos 0) c.loop-i-test.true c.requires
     ∙ ap (λ (k : ℕ). map literal (take k numbers) ++ drop k c.args.words.now) (sym (add-one i))
-
-pub returns : goal.returns
-returns g c =
-    let numbers : List ℤ = c.args.numbers.now in
-    let i : ℕ = c.loop-i.i in
-    let literal : ℤ → g.row.W.Denot = λ v. g.W.NumberKind.kind.literal v in
-    let all : i ≡ length numbers = omega arith in
-    c.loop-i.invariant
-    ∙ ap (λ (l : List ℤ). map literal l ++ drop i c.args.words.now) (take_all i numbers c.loop-i-test.false)
-    ∙ ap (λ (k : ℕ). map literal numbers ++ drop k c.args.words.now) all

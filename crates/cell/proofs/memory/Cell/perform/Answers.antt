@@ -14,12 +14,6 @@ loop-call-preserved g c =
       c.take-answer.ensures.loan ∙ inv.4,
     )
 
-pub returns : goal.returns
-returns g c =
-    let inv = c.loop-call.invariant in
-    record {
-      made =
-          all_made _ _ _ _ c.args.calls.now c.loop-call.call-index _ c.loop-call-test.false inv.0;
-      holds = inv.3;
-      loan = inv.4;
-    }
+pub returns-clause-made : goal.returns-clause-made
+returns-clause-made g c =
+    all_made _ _ _ _ c.args.calls.now c.loop-call.call-index _ c.loop-call-test.false c.loop-call.invariant.0

@@ -1,14 +1,11 @@
 -- The globals are in memory, so they are fewer than 2 ^ 63.
-use Rattle.std.proofs.Common.{◌≡◌, ◌+◌, ◌*◌, ◌^◌, ◌<◌, ◌≤◌, List, length, ℤ, vec_items, ap, mul-le-mul, arith}
+use Rattle.std.proofs.Common.{◌+◌, ◌*◌, ◌^◌, ◌≤◌, mul-le-mul, arith}
 use Rattle.cell.proofs.memory.Cell.words_wanted.Goals as goal
 
 pub overflow_add-result-2 : goal.overflow_add-result-2
 overflow_add-result-2 c =
     let cell = c.args.self.now in
     let globals = cell.translation.globals in
-    let count : length c.globals.result.now ≡ length (vec_items globals) =
-    ap (λ (l : List ℤ). length l) c.globals.ensures in
-    let few : length (vec_items globals) < 2 ^ 63 = omega (arith, globals.ok.0, globals.ok.1, globals.small) in
     let depth : c.args.depth + 1 ≤ 2 ^ 32 = omega arith in
     let frames : (c.args.depth + 1) * cell.need ≤ 2 ^ 32 * 100 = mul-le-mul depth cell.few in
-    omega arith
+    omega (arith, globals.ok.0, globals.ok.1, globals.small)

@@ -1,13 +1,13 @@
-use Rattle.std.proofs.Common.{◌∙◌, arith}
+use Rattle.std.proofs.Common.{refl, ◌∙◌, arith}
+use Rattle.machine.specs.declared.state.Machine.{Machine}
 use Rattle.machine.specs.Steps.{word_image}
 use Rattle.machine.proofs.Steps.{goes_on}
 use Rattle.machine.proofs.FrameRecords.{returns_to}
 use Rattle.machine.proofs.state.Machine.leave.Goals as goal
 
 pub returns : goal.returns
-returns g c = λ bays.
-    let m = c.args.self.now in
-    let cut = c.cut_frame.ensures.machine in
-    goes_on _ m c.args.words.now bays _ _ bays cut.depth cut.globals
+returns g c = λ bays pc e.
+    let m : Machine = record c.args.self.now { pc = pc } in
+    goes_on _ m c.args.words.now bays _ _ bays refl refl
     (returns_to (word_image g.W.NumberKind.kind m) m c.args.words.now _ bays 0 c.at-caller.result
-    (omega arith) (omega arith) c.at-caller.ensures c.cut_frame.ensures.words ∙ cc)
+    (omega arith) (omega arith) c.at-caller.ensures c.copy_top.ensures ∙ cc)
