@@ -5,14 +5,12 @@ use Rattle.script.specs.declared.record.Record.{Record}
 use Rattle.script.specs.declared.rows.Operator.{Operator}
 use Rattle.script.specs.declared.rows.Sort.TheVariants.{Expression as ExpressionSort, Statement as StatementSort}
 use Rattle.script.specs.declared.rows.NodeKind.TheVariants as is
-use Rattle.script.specs.Rows.{natural, amount}
 use Rattle.syntax.specs.Syntax.{Expression, binary, assign, call, bay_read, bay_write, Arguments, no_argument, argument}
 use Rattle.syntax.specs.Syntax.{Statement, evaluate, if_else, while, give_back, block, Statements, no_statement, then, Function}
 use Rattle.syntax.specs.Syntax.{function_named, name_of}
 use Rattle.syntax.specs.Trees.{size, sizes, pieces, tree_at, no_record, Leaves}
 use Rattle.syntax.specs.Typed.{arguments_of, statements_of, expression_at, arguments_at, statement_at, statements_at, variables_at, node_at}
-use Rattle.syntax.specs.Typed.{function_of, first_parts}
-use Rattle.syntax.proofs.NodeKinds.{row_for, row_is}
+use Rattle.syntax.specs.Typed.{function_of, first_parts, second_parts}
 use Rattle.syntax.proofs.Expressions.{firsts}
 use Rattle.syntax.proofs.Statements.{blocked}
 use Rattle.syntax.proofs.Shapes.{simple-at, return-at, chosen, looped}
@@ -147,7 +145,7 @@ module _ (table : List Record) (calls : Calls) (at : ℕ) (l : Lent) where
       pub ends : at + 1 + sizes (pieces table (at + 1) n) ≡ at + size (tree_at table at)
       pub takes : Takes (function_named (get_or table at no_record).a (functions_in table)) n
 
-    pub call-ready : (n : ℕ) → node_at table at ≡ is.Call → n ≡ natural (get_or table at no_record).v → CallReady n
+    pub call-ready : (n : ℕ) → node_at table at ≡ is.Call → n ≡ first_parts (get_or table at no_record) → CallReady n
     call-ready n b en =
         let v = called table at r.part n b en in
         let s = subst (Scoped r.own) v.is r.scoped in
@@ -373,11 +371,10 @@ module _ (table : List Record) (calls : Calls) (at : ℕ) (l : Lent) where
     pub ends : at + 1 + k + sizes (pieces table (at + 1 + k) n) ≡ at + size (tree_at table at)
 
   pub block-ready : (k n : ℕ) → ReadyStatement table calls at l → node_at table at ≡ is.Block →
-      k ≡ (get_or table at no_record).a → n ≡ natural (get_or table at no_record).v → BlockReady k n
+      k ≡ (get_or table at no_record).a → n ≡ second_parts (get_or table at no_record) → BlockReady k n
   block-ready k n r b ek en =
-      let row = row_is (get_or table at no_record).kind ∙ ap row_for b in
       let v = blocked table at k n (at + 1 + k) no_record r.part.within r.part.sound b ek
-      (en ∙ sym (ap (λ (z : _). amount z.second.count (get_or table at no_record)) row)) refl in
+      en refl in
       let s = subst (λ (s : Statement). ScopedStatement (globals_in table) (functions_in table) s r.own) v.is
       r.scoped in
       let ss : Statements = statements_at table (at + 1 + k) n in

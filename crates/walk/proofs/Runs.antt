@@ -24,7 +24,7 @@ module _ {A A' : Type 0} {run : Outcome ℤ A} (next : A → State ℤ → Outco
     where
       go : (s : Stop) → and_then (stopped s σ) next ≡ stopped s σ
       go (Returned w) = refl
-      go (Ended e p) = refl
+      go (Ended e) = refl
 
 module _ {A : Type 0} (place : ℕ) (σ : State ℤ) (next : State ℤ → Outcome ℤ A) where
   -- There is no fuel, or one is spent.
@@ -38,7 +38,7 @@ module _ {A : Type 0} (place : ℕ) (σ : State ℤ) (next : State ℤ → Outco
 pub block-stops : (word : ℤ) (before : State ℤ) (s : Stop) (σ : State ℤ) →
     leave_block word before (stopped s σ) ≡ stopped s σ
 block-stops word before (Returned w) σ = refl
-block-stops word before (Ended e p) σ = refl
+block-stops word before (Ended e) σ = refl
 
 -- A call whose arguments have run.
 module _ (S : Setting ℤ) (deep : ℕ → Statement → State ℤ → Outcome ℤ ℤ) (place calls : ℕ) {o : Option Function}

@@ -88,7 +88,7 @@ pub run-shown : (granted : ℕ) (r : Result Valued Stop) (o : Outcome ℤ ℤ) (
 run-shown granted (Ok v) o l e = rw (e, laid-over (bound l) l.names, laid-over (bound l) l.words) refl
 run-shown granted (Err (Returned w)) o l e = rw (e, laid-over (bound l) l.names, laid-over (bound l) l.words)
     refl
-run-shown granted (Err (Ended x p)) o l e = rw (e, laid-over (bound l) l.names, laid-over (bound l) l.words)
+run-shown granted (Err (Ended x)) o l e = rw (e, laid-over (bound l) l.names, laid-over (bound l) l.words)
     refl
 
 -- The run of a program is that of its statement, once its globals are bound.

@@ -8,6 +8,7 @@ use Rattle.walk.specs.declared.state.Progress.{Progress}
 use Rattle.walk.specs.declared.state.Valued.{Valued}
 use Rattle.walk.specs.declared.state.Stop.{Stop}
 use Rattle.walk.specs.declared.state.Stop.TheVariants.{Returned, Ended}
+use Rattle.script.specs.declared.ending.Ending.{Ending}
 
 -- A bay table can hold every word.
 abbrev pub every : ℤ → Bool
@@ -45,10 +46,14 @@ state l = record {
   fuel = fuel l;
 }
 
+-- The run ends at a record.
+abbrev pub ended_at : Ending → ℕ → Stop
+ended_at ending place = Ended (record { ending = ending; place = place })
+
 -- Where a part has no value.
 abbrev pub stopped : {A : Type 0} → Stop → State ℤ → Outcome ℤ A
 stopped (Returned w) σ = returned w σ
-stopped (Ended e place) σ = ended e place σ
+stopped (Ended e) σ = ended e.ending e.place σ
 
 -- What a walk answers, as an outcome of the tree run: `means` says what value an answer stands for.
 abbrev pub shown : {A B : Type 0} → (B → A) → Result B Stop → State ℤ → Outcome ℤ A
@@ -91,7 +96,7 @@ RanParts run r a end before after = Ran run r (λ n. a) (λ n. n) end before aft
 -- What a bay answers, at a place, and the bays as they then are.
 abbrev pub answer_at : ℕ → BayAnswer ℤ → Result ℤ Stop
 answer_at place (gives w bays) = Ok w
-answer_at place (fails e) = Err (Ended e place)
+answer_at place (fails e) = Err (ended_at e place)
 
 abbrev pub bays_after : List ℤ → BayAnswer ℤ → List ℤ
 bays_after before (gives w bays) = bays

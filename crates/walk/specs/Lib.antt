@@ -1,4 +1,3 @@
-pub mod Newest
 pub mod Lent
 pub mod Ready
 pub mod Walked

@@ -6,10 +6,10 @@ ghost use Rattle.syntax.specs.Trees.{pieces, Sounds};
 ghost use Rattle.syntax.specs.Typed.{declarations_at};
 ghost use Rattle.walk.specs.Ready.{Accepted, Finds, functions_in};
 
-use crate::numbers::node_of;
 use crate::skip::skip;
 use script::Record;
 use script::rows::NodeKind;
+use syntax::parts::node_kind;
 
 // Its record, among `count` declarations from `at`.
 fn among(table: &[Record], count: usize, at: usize, name: u16) -> Option<usize>
@@ -21,7 +21,7 @@ fn among(table: &[Record], count: usize, at: usize, name: u16) -> Option<usize>
         return None;
     }
     let node = table[at];
-    match node_of(node.kind) {
+    match node_kind(node) {
         NodeKind::Function => {
             if name == node.a {
                 return Some(at);

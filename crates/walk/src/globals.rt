@@ -10,11 +10,11 @@ ghost use Rattle.walk.specs.Lent.{lent, state};
 ghost use Rattle.walk.specs.Ready.{Bound};
 
 use crate::bind::push;
-use crate::numbers::node_of;
 use crate::skip::skip;
 use crate::state::Progress;
 use script::Record;
 use script::rows::NodeKind;
+use syntax::parts::node_kind;
 
 // Binds the variables among `count` declarations from `at`; the index after the declarations.
 pub fn globals(
@@ -42,7 +42,7 @@ pub fn globals(
         return at;
     }
     let node = table[at];
-    match node_of(node.kind) {
+    match node_kind(node) {
         NodeKind::Function => {
             let next = skip(table, at);
             globals(table, count - 1, next, names, words, progress)

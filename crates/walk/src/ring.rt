@@ -11,15 +11,15 @@ ghost use Rattle.walk.specs.Ready.{ReadyExpression, ReadyArguments, ReadyStateme
 use crate::bays::{read_bay, write_bay};
 use crate::bind::{bind, declare};
 use crate::functions::function;
-use crate::numbers::{apply, node_of};
+use crate::numbers::apply;
 use crate::skip::skip;
-use crate::state::{Calls, Progress, Stop, Valued};
+use crate::state::{Calls, Progress, Stop, Valued, end_at};
 use crate::variables::{assign, word_of};
 use kinds::NumberKind;
 use racks::BayTable;
-use script::Record;
-use script::ending::Ending;
-use script::rows::{Count, NodeKind};
+use script::{Ending, Record};
+use script::rows::NodeKind;
+use syntax::parts::{node_kind, part_count, statement_count};
 
 #[cycle(arguments_block_call_expression_repeat_statement_statements)]
 pub fn expression(
@@ -43,7 +43,7 @@ pub fn expression(
         (lent names.new words.new (table_bays bays.new) progress.new) }
 {
     let node = table[at];
-    match node_of(node.kind) {
+    match node_kind(node) {
         NodeKind::Number => Ok(Valued {
             word: node.v,
             next: at + 1,
@@ -151,7 +151,7 @@ fn call(
         (lent names.new words.new (table_bays bays.new) progress.new) }
 {
     let node = table[at];
-    let count = Count::FieldV.of(node);
+    let count = part_count(node);
     let mut given = [0; 15];
     let next = arguments(
         table,
@@ -169,10 +169,10 @@ fn call(
         return Ok(Valued { word: 0, next });
     };
     if calls.opened == calls.depth {
-        return Err(Stop::Ended(Ending::TooDeep, at));
+        return Err(end_at(Ending::TooDeep, at));
     }
     if progress.fuel == 0 {
-        return Err(Stop::Ended(Ending::NoFuel, at));
+        return Err(end_at(Ending::NoFuel, at));
     }
     progress.fuel -= 1;
     let before = progress.bound;
@@ -186,13 +186,11 @@ fn call(
             progress.bound = before;
             Ok(Valued { word: 0, next })
         }
-        Err(stop) => match stop {
-            Stop::Returned(word) => {
-                progress.bound = before;
-                Ok(Valued { word, next })
-            }
-            Stop::Ended(ending, place) => Err(Stop::Ended(ending, place)),
-        },
+        Err(Stop::Returned(word)) => {
+            progress.bound = before;
+            Ok(Valued { word, next })
+        }
+        Err(Stop::Ended(end)) => Err(Stop::Ended(end)),
     }
 }
 
@@ -218,7 +216,7 @@ pub fn statement(
         (lent names.new words.new (table_bays bays.new) progress.new) }
 {
     let node = table[at];
-    match node_of(node.kind) {
+    match node_kind(node) {
         NodeKind::ExpressionStatement => expression(
             table,
             at + 1,
@@ -287,7 +285,7 @@ fn repeat(
         }
         let _done = statement(table, test.next, calls, names, words, bays, progress)?;
     }
-    Err(Stop::Ended(Ending::NoFuel, at))
+    Err(end_at(Ending::NoFuel, at))
 }
 
 // A block: its locals are bound, its statements run, the locals are dropped.
@@ -315,7 +313,7 @@ fn block(
 {
     let node = table[at];
     let locals = node.a as usize;
-    let count = Count::FieldV.of(node);
+    let count = statement_count(node);
     let before = progress.bound;
     declare(table, at + 1, locals, names, words, progress);
     let next = statements(

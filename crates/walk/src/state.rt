@@ -1,5 +1,8 @@
 // What a walk keeps besides the slices lent to it, and what a part of a program comes to.
-use script::ending::Ending;
+ghost use Rattle.std.specs.Prelude.{◌≡◌};
+ghost use Rattle.walk.specs.Lent.{ended_at};
+
+use script::{Ending, RunEnd};
 
 // How many bindings stand, and the fuel left.
 #[derive(Clone, Copy)]
@@ -27,5 +30,12 @@ pub struct Valued {
 #[derive(Clone, Copy)]
 pub enum Stop {
     Returned(i32),
-    Ended(Ending, usize),
+    Ended(RunEnd),
+}
+
+// The run ends at a record.
+pub fn end_at(ending: Ending, place: usize) -> Stop
+    ensures { result ≡ ended_at ending place }
+{
+    Stop::Ended(RunEnd { ending, place })
 }

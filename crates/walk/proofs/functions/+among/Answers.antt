@@ -71,13 +71,13 @@ returns-else-name-node t c =
 pub among-requires-in_default : goal.among-requires-in_default
 among-requires-in_default t c =
     let p = first-variable c.args.table.now c.args.at c.args.count no_record (omega arith) c.requires
-    (λ e. c.in_default.not-Function (c.node_of.ensures ∙ e)) in
+    (λ e. c.in_default.not-Function (c.node_kind.ensures ∙ e)) in
     (omega arith, p.others)
 
 pub returns-in_default : goal.returns-in_default
 returns-in_default t c =
     let p = first-variable c.args.table.now c.args.at c.args.count no_record (omega arith) c.requires
-    (λ e. c.in_default.not-Function (c.node_of.ensures ∙ e)) in
+    (λ e. c.in_default.not-Function (c.node_kind.ensures ∙ e)) in
     let z = ap (λ (ds : List Declaration). function_named c.args.name (functions_of ds)) p.is in
     subst (λ (o : Option Function). Finds c.args.table.now o c.among-in_default.result) (sym z)
     c.among-in_default.ensures

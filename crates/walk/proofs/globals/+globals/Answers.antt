@@ -80,14 +80,14 @@ returns-in-Function t c =
 pub push-requires : goal.push-requires
 push-requires t c =
     let p = first-variable c.args.table.now c.args.at c.args.count no_record (omega arith) c.requires.sound
-    (λ e. c.in_default.not-Function (c.node_of.ensures ∙ e)) in
+    (λ e. c.in_default.not-Function (c.node_kind.ensures ∙ e)) in
     let l = ap (λ (ds : List Declaration). length (variables_of ds)) p.is in
     record { names = omega (arith, c.requires.names); words = omega (arith, c.requires.words) }
 
 pub globals-requires-in_default : goal.globals-requires-in_default
 globals-requires-in_default t c =
     let p = first-variable c.args.table.now c.args.at c.args.count no_record (omega arith) c.requires.sound
-    (λ e. c.in_default.not-Function (c.node_of.ensures ∙ e)) in
+    (λ e. c.in_default.not-Function (c.node_kind.ensures ∙ e)) in
     let l = ap (λ (ds : List Declaration). length (variables_of ds)) p.is in
     let b = c.push.ensures.progress.count in
     (omega arith, (p.others, (omega (arith, c.requires.names), omega (arith, c.requires.words))))
@@ -95,7 +95,7 @@ globals-requires-in_default t c =
 pub returns-in_default : goal.returns-in_default
 returns-in_default t c =
     let p = first-variable c.args.table.now c.args.at c.args.count no_record (omega arith) c.requires.sound
-    (λ e. c.in_default.not-Function (c.node_of.ensures ∙ e)) in
+    (λ e. c.in_default.not-Function (c.node_kind.ensures ∙ e)) in
     let l = ap (λ (ds : List Declaration). length (variables_of ds)) p.is in
     let b = c.push.ensures.progress.count in
     let r : Record = get_or c.args.table.now c.args.at no_record in

@@ -246,7 +246,7 @@ expression-returns-in_ok-word-in-BayWrite t c =
 
 pub expression-returns-in_default : goal.expression-returns-in_default
 expression-returns-in_default t c =
-    absurd (no_other _ _ c.requires.part _ c.node_of.ensures c.in_default.not-Number c.in_default.not-Variable
+    absurd (no_other _ _ c.requires.part _ c.node_kind.ensures c.in_default.not-Number c.in_default.not-Variable
     c.in_default.not-TwoPart
     c.in_default.not-Assignment c.in_default.not-Call c.in_default.not-BayRead c.in_default.not-BayWrite)
 
@@ -495,11 +495,11 @@ statement-returns-in_ok-first-in-If t c =
 
 pub statement-returns-in_default : goal.statement-returns-in_default
 statement-returns-in_default t c =
-    let b : node_at c.args.table.now c.args.at ≡ _ = sym c.node_of.ensures in
-    absurd (c.in_default.not-ExpressionStatement (c.node_of.ensures
+    let b : node_at c.args.table.now c.args.at ≡ _ = sym c.node_kind.ensures in
+    absurd (c.in_default.not-ExpressionStatement (c.node_kind.ensures
     ∙ simple-kind _ _ c.requires.part.within c.requires.part.sound
-    (λ e. c.in_default.not-Return (c.node_of.ensures ∙ e)) (λ e. c.in_default.not-If (c.node_of.ensures ∙ e))
-    (λ e. c.in_default.not-While (c.node_of.ensures ∙ e)) (λ e. c.in_default.not-Block (c.node_of.ensures ∙ e))))
+    (λ e. c.in_default.not-Return (c.node_kind.ensures ∙ e)) (λ e. c.in_default.not-If (c.node_kind.ensures ∙ e))
+    (λ e. c.in_default.not-While (c.node_kind.ensures ∙ e)) (λ e. c.in_default.not-Block (c.node_kind.ensures ∙ e))))
 
 pub repeat-expression-requires : goal.repeat-expression-requires
 repeat-expression-requires t c =
@@ -591,7 +591,7 @@ pub repeat-returns : goal.repeat-returns
 repeat-returns t c =
     let p = while-ready _ _ _ _ c.requires.ready _ refl c.requires.kind in
     let r = c.requires.ready.room in
-    record {
+    rw c.end_at.ensures record {
       runs = c.loop-progress.invariant.0 ∙ rw p.is
           ((by-rules (setting c.args.table.now c.args.calls.depth)).of_while _ _ _ _ _
           ∙ no_fuel _ (state (lent c.loop-progress.names c.loop-progress.words
@@ -607,26 +607,26 @@ repeat-returns t c =
 
 pub block-declare-requires : goal.block-declare-requires
 block-declare-requires t c =
-    let p = block-ready _ _ _ _ _ c.of-count.result c.requires.ready c.requires.kind refl
-    c.of-count.ensures in
+    let p = block-ready _ _ _ _ _ c.statement_count-count.result c.requires.ready c.requires.kind refl
+    c.statement_count-count.ensures in
     record { plain = p.plain; names = p.names; words = p.words }
 
 pub block-statements-requires : goal.block-statements-requires
 block-statements-requires t c =
-    let p = block-ready _ _ _ _ _ c.of-count.result c.requires.ready c.requires.kind refl
-    c.of-count.ensures in
+    let p = block-ready _ _ _ _ _ c.statement_count-count.result c.requires.ready c.requires.kind refl
+    c.statement_count-count.ensures in
     let r = p.body (lent c.declare.new.names c.declare.new.words (table_bays c.args.bays.now)
     c.declare.new.progress) c.declare.ensures.progress.count (omega arith) (omega arith) in
     (omega (arith, c.requires.ready.part.within), r)
 
 pub block-returns-in_err-next : goal.block-returns-in_err-next
 block-returns-in_err-next t c =
-    let p = block-ready _ _ _ _ _ c.of-count.result c.requires.ready c.requires.kind refl
-    c.of-count.ensures in
+    let p = block-ready _ _ _ _ _ c.statement_count-count.result c.requires.ready c.requires.kind refl
+    c.statement_count-count.ensures in
     let k = c.in_err-next.ensures in
     let b = ap (λ (σ : State ℤ). statements_run (setting c.args.table.now c.args.calls.depth)
     (statements_at c.args.table.now (c.args.at + 1 + (get_or c.args.table.now c.args.at no_record).a)
-    c.of-count.result) c.args.calls.opened σ)
+    c.statement_count-count.result) c.args.calls.opened σ)
     (sym (c.declare.ensures.bound (table_bays c.args.bays.now))) in
     passes _ _ _ (err_from_is_err_and c.from_residual.result c.from_residual.ensures.1)
     (omega (arith, c.declare.ensures.progress.count)) (omega (arith, c.declare.ensures.progress.fuel)) k
@@ -638,13 +638,13 @@ block-returns-in_err-next t c =
 
 pub block-returns : goal.block-returns
 block-returns t c =
-    let p = block-ready _ _ _ _ _ c.of-count.result c.requires.ready c.requires.kind refl
-    c.of-count.ensures in
+    let p = block-ready _ _ _ _ _ c.statement_count-count.result c.requires.ready c.requires.kind refl
+    c.statement_count-count.ensures in
     let k = c.in_ok-next.ensures in
     let e = c.declare.ensures.progress.count in
     let b = ap (λ (σ : State ℤ). statements_run (setting c.args.table.now c.args.calls.depth)
     (statements_at c.args.table.now (c.args.at + 1 + (get_or c.args.table.now c.args.at no_record).a)
-    c.of-count.result) c.args.calls.opened σ)
+    c.statement_count-count.result) c.args.calls.opened σ)
     (sym (c.declare.ensures.bound (table_bays c.args.bays.now))) in
     let l : Lent = (lent c.statements.new.names c.statements.new.words
     (table_bays c.statements.new.bays) c.statements.new.progress) in
@@ -662,14 +662,14 @@ block-returns t c =
 
 pub call-arguments-requires : goal.call-arguments-requires
 call-arguments-requires t c =
-    let p = call-ready _ _ _ _ c.requires.ready c.of-count.result c.requires.kind
-    c.of-count.ensures in
+    let p = call-ready _ _ _ _ c.requires.ready c.part_count-count.result c.requires.kind
+    c.part_count-count.ensures in
     (omega (arith, c.requires.ready.part.within), (p.ready, omega (arith, p.few)))
 
 pub call-returns-in_err-next : goal.call-returns-in_err-next
 call-returns-in_err-next t c =
-    let p = call-ready _ _ _ _ c.requires.ready c.of-count.result c.requires.kind
-    c.of-count.ensures in
+    let p = call-ready _ _ _ _ c.requires.ready c.part_count-count.result c.requires.kind
+    c.part_count-count.ensures in
     let k = c.in_err-next.ensures in
     passes _ _ _ (err_from_is_err_and c.from_residual.result c.from_residual.ensures.1) (omega arith)
     (omega arith) k
@@ -678,8 +678,8 @@ call-returns-in_err-next t c =
 
 pub call-returns-in_default : goal.call-returns-in_default
 call-returns-in_default t c =
-    let p = call-ready _ _ _ _ c.requires.ready c.of-count.result c.requires.kind
-    c.of-count.ensures in
+    let p = call-ready _ _ _ _ c.requires.ready c.part_count-count.result c.requires.kind
+    c.part_count-count.ensures in
     let k = c.in_ok-next.ensures in
     gives _ _ _ _ _ _ _ refl
     (rw p.is ((by-rules (setting c.args.table.now c.args.calls.depth)).of_call _ _ _ _ _
@@ -690,11 +690,11 @@ call-returns-in_default t c =
 
 pub call-returns-then-calls : goal.call-returns-then-calls
 call-returns-then-calls t c =
-    let p = call-ready _ _ _ _ c.requires.ready c.of-count.result c.requires.kind
-    c.of-count.ensures in
+    let p = call-ready _ _ _ _ c.requires.ready c.part_count-count.result c.requires.kind
+    c.part_count-count.ensures in
     let k = c.in_ok-next.ensures in
     let l = c.in-Some.ensures in
-    record {
+    rw c.end_at.ensures record {
       runs = rw p.is ((by-rules (setting c.args.table.now c.args.calls.depth)).of_call _ _ _ _ _
           ∙ (goes_on _ _ _ k.runs ∙ too_deep (setting c.args.table.now c.args.calls.depth)
           (λ calls s σ. statement_run (setting c.args.table.now c.args.calls.depth) s calls σ) _ _ _
@@ -710,11 +710,11 @@ call-returns-then-calls t c =
 
 pub call-returns-then-progress-eq0 : goal.call-returns-then-progress-eq0
 call-returns-then-progress-eq0 t c =
-    let p = call-ready _ _ _ _ c.requires.ready c.of-count.result c.requires.kind
-    c.of-count.ensures in
+    let p = call-ready _ _ _ _ c.requires.ready c.part_count-count.result c.requires.kind
+    c.part_count-count.ensures in
     let k = c.in_ok-next.ensures in
     let l = c.in-Some.ensures in
-    record {
+    rw c.end_at-then-progress-eq0.ensures record {
       runs = rw p.is ((by-rules (setting c.args.table.now c.args.calls.depth)).of_call _ _ _ _ _
           ∙ (goes_on _ _ _ k.runs
           ∙ without-fuel (setting c.args.table.now c.args.calls.depth)
@@ -731,8 +731,8 @@ call-returns-then-progress-eq0 t c =
 
 pub call-bind-requires : goal.call-bind-requires
 call-bind-requires t c =
-    let p = call-ready _ _ _ _ c.requires.ready c.of-count.result c.requires.kind
-    c.of-count.ensures in
+    let p = call-ready _ _ _ _ c.requires.ready c.part_count-count.result c.requires.kind
+    c.part_count-count.ensures in
     let k = c.in_ok-next.ensures in
     let l = c.in-Some.ensures in
     let h : c.args.calls.opened < c.args.calls.depth =
@@ -742,7 +742,7 @@ call-bind-requires t c =
     (record { bound = c.arguments.new.progress.bound; fuel = c.arguments.new.progress.fuel - 1 })) =
     less-room c.requires.ready.room (omega arith) (record
     { bindings = k.kept; names = omega arith; words = omega arith }) in
-    let n = enters c.args.table.now c.args.calls 0 c.in-Some.f c.of-count.result _
+    let n = enters c.args.table.now c.args.calls 0 c.in-Some.f c.part_count-count.result _
     (lent c.arguments.new.names c.arguments.new.words (table_bays c.arguments.new.bays)
     (record { bound = c.arguments.new.progress.bound; fuel = c.arguments.new.progress.fuel - 1 })) r
     h l p.takes in
@@ -750,8 +750,8 @@ call-bind-requires t c =
 
 pub call-overflow_add-f-3 : goal.call-overflow_add-f-3
 call-overflow_add-f-3 t c =
-    let p = call-ready _ _ _ _ c.requires.ready c.of-count.result c.requires.kind
-    c.of-count.ensures in
+    let p = call-ready _ _ _ _ c.requires.ready c.part_count-count.result c.requires.kind
+    c.part_count-count.ensures in
     let k = c.in_ok-next.ensures in
     let l = c.in-Some.ensures in
     let h : c.args.calls.opened < c.args.calls.depth =
@@ -761,17 +761,17 @@ call-overflow_add-f-3 t c =
     (record { bound = c.arguments.new.progress.bound; fuel = c.arguments.new.progress.fuel - 1 })) =
     less-room c.requires.ready.room (omega arith) (record
     { bindings = k.kept; names = omega arith; words = omega arith }) in
-    let n = enters c.args.table.now c.args.calls 0 c.in-Some.f c.of-count.result _
+    let n = enters c.args.table.now c.args.calls 0 c.in-Some.f c.part_count-count.result _
     (lent c.arguments.new.names c.arguments.new.words (table_bays c.arguments.new.bays)
     (record { bound = c.arguments.new.progress.bound; fuel = c.arguments.new.progress.fuel - 1 })) r
     h l p.takes in
-    let i : c.in-Some.f + 1 + c.of-count.result < length c.args.table.now = n.within in
+    let i : c.in-Some.f + 1 + c.part_count-count.result < length c.args.table.now = n.within in
     search rules
 
 pub call-statement-requires : goal.call-statement-requires
 call-statement-requires t c =
-    let p = call-ready _ _ _ _ c.requires.ready c.of-count.result c.requires.kind
-    c.of-count.ensures in
+    let p = call-ready _ _ _ _ c.requires.ready c.part_count-count.result c.requires.kind
+    c.part_count-count.ensures in
     let k = c.in_ok-next.ensures in
     let l = c.in-Some.ensures in
     let h : c.args.calls.opened < c.args.calls.depth =
@@ -781,7 +781,7 @@ call-statement-requires t c =
     (record { bound = c.arguments.new.progress.bound; fuel = c.arguments.new.progress.fuel - 1 })) =
     less-room c.requires.ready.room (omega arith) (record
     { bindings = k.kept; names = omega arith; words = omega arith }) in
-    let n = enters c.args.table.now c.args.calls 0 c.in-Some.f c.of-count.result _
+    let n = enters c.args.table.now c.args.calls 0 c.in-Some.f c.part_count-count.result _
     (lent c.arguments.new.names c.arguments.new.words (table_bays c.arguments.new.bays)
     (record { bound = c.arguments.new.progress.bound; fuel = c.arguments.new.progress.fuel - 1 })) r
     h l p.takes in
@@ -792,8 +792,8 @@ call-statement-requires t c =
 
 pub call-returns-in-Ok : goal.call-returns-in-Ok
 call-returns-in-Ok t c =
-    let p = call-ready _ _ _ _ c.requires.ready c.of-count.result c.requires.kind
-    c.of-count.ensures in
+    let p = call-ready _ _ _ _ c.requires.ready c.part_count-count.result c.requires.kind
+    c.part_count-count.ensures in
     let k = c.in_ok-next.ensures in
     let l = c.in-Some.ensures in
     let h : c.args.calls.opened < c.args.calls.depth =
@@ -803,7 +803,7 @@ call-returns-in-Ok t c =
     (record { bound = c.arguments.new.progress.bound; fuel = c.arguments.new.progress.fuel - 1 })) =
     less-room c.requires.ready.room (omega arith) (record
     { bindings = k.kept; names = omega arith; words = omega arith }) in
-    let n = enters c.args.table.now c.args.calls 0 c.in-Some.f c.of-count.result _
+    let n = enters c.args.table.now c.args.calls 0 c.in-Some.f c.part_count-count.result _
     (lent c.arguments.new.names c.arguments.new.words (table_bays c.arguments.new.bays)
     (record { bound = c.arguments.new.progress.bound; fuel = c.arguments.new.progress.fuel - 1 })) r
     h l p.takes in
@@ -815,7 +815,7 @@ call-returns-in-Ok t c =
     { bound = c.arguments.new.progress.bound; fuel = c.arguments.new.progress.fuel - 1 })) in
     let x = body-runs (setting c.args.table.now c.args.calls.depth) c.args.calls.opened
     (c.args.calls.opened + 1) (function_of (tree_at c.args.table.now c.in-Some.f)) _ _
-    c.arguments.new.given (0 + c.of-count.result) c.of-count.result υ
+    c.arguments.new.given (0 + c.part_count-count.result) c.part_count-count.result υ
     (state (lent c.bind.new.names c.bind.new.words (table_bays c.arguments.new.bays)
     c.bind.new.progress))
     n.body n.parameters (omega arith) (add-one c.args.calls.opened)
@@ -839,10 +839,10 @@ call-returns-in-Ok t c =
     (rw p.is (y ∙ (ap (leave_call (pos 0) υ) (x ∙ j.runs) ∙ ap (value (pos 0)) d)))
     (omega (arith, j.fuel, k.fuel, c.bind.ensures.progress.fuel)) k.kept (k.ends ∙ p.ends)
 
-pub call-returns-in-Returned : goal.call-returns-in-Returned
-call-returns-in-Returned t c =
-    let p = call-ready _ _ _ _ c.requires.ready c.of-count.result c.requires.kind
-    c.of-count.ensures in
+pub call-returns-in-Err-Returned : goal.call-returns-in-Err-Returned
+call-returns-in-Err-Returned t c =
+    let p = call-ready _ _ _ _ c.requires.ready c.part_count-count.result c.requires.kind
+    c.part_count-count.ensures in
     let k = c.in_ok-next.ensures in
     let l = c.in-Some.ensures in
     let h : c.args.calls.opened < c.args.calls.depth =
@@ -852,11 +852,11 @@ call-returns-in-Returned t c =
     (record { bound = c.arguments.new.progress.bound; fuel = c.arguments.new.progress.fuel - 1 })) =
     less-room c.requires.ready.room (omega arith) (record
     { bindings = k.kept; names = omega arith; words = omega arith }) in
-    let n = enters c.args.table.now c.args.calls 0 c.in-Some.f c.of-count.result _
+    let n = enters c.args.table.now c.args.calls 0 c.in-Some.f c.part_count-count.result _
     (lent c.arguments.new.names c.arguments.new.words (table_bays c.arguments.new.bays)
     (record { bound = c.arguments.new.progress.bound; fuel = c.arguments.new.progress.fuel - 1 })) r
     h l p.takes in
-    let j = recast (Returned c.in-Returned.word) c.in-Returned.is c.in-Err.ensures in
+    let j = recast (Returned c.in-Err-Returned.word) c.in-Err-Returned.field-0-is c.in-Err-Returned.ensures in
     let e = c.bind.ensures.progress.count in
     let z : c.arguments.new.progress.fuel ≡ suc (c.arguments.new.progress.fuel - 1) = omega arith in
     let υ : State ℤ = state (lent c.arguments.new.names c.arguments.new.words
@@ -864,7 +864,7 @@ call-returns-in-Returned t c =
     { bound = c.arguments.new.progress.bound; fuel = c.arguments.new.progress.fuel - 1 })) in
     let x = body-runs (setting c.args.table.now c.args.calls.depth) c.args.calls.opened
     (c.args.calls.opened + 1) (function_of (tree_at c.args.table.now c.in-Some.f)) _ _
-    c.arguments.new.given (0 + c.of-count.result) c.of-count.result υ
+    c.arguments.new.given (0 + c.part_count-count.result) c.part_count-count.result υ
     (state (lent c.bind.new.names c.bind.new.words (table_bays c.arguments.new.bays)
     c.bind.new.progress))
     n.body n.parameters (omega arith) (add-one c.args.calls.opened)
@@ -877,21 +877,21 @@ call-returns-in-Returned t c =
     (state (lent c.arguments.new.names c.arguments.new.words
     (table_bays c.arguments.new.bays) c.arguments.new.progress))
     (eqb-ne _ _ c.if-calls.false) (c.arguments.new.progress.fuel - 1) z) in
-    let f : SFits w32 c.in-Returned.word = search rules in
+    let f : SFits w32 c.in-Err-Returned.word = search rules in
     let d = dropped (lent c.arguments.new.names c.arguments.new.words
     (table_bays c.arguments.new.bays) (record
     { bound = c.arguments.new.progress.bound; fuel = c.arguments.new.progress.fuel - 1 }))
     (lent c.statement.new.names c.statement.new.words (table_bays c.statement.new.bays)
     c.statement.new.progress) c.arguments.new.progress.bound refl
     (omega (arith, j.kept.0, e)) j.kept.1 j.kept.2 (omega (arith, n.names)) (omega (arith, n.words)) in
-    gives _ _ _ _ _ _ _ (to_z-of_z w32 c.in-Returned.word f)
-    (rw p.is (y ∙ (ap (leave_call (pos 0) υ) (x ∙ j.runs) ∙ ap (value c.in-Returned.word) d)))
+    gives _ _ _ _ _ _ _ (to_z-of_z w32 c.in-Err-Returned.word f)
+    (rw p.is (y ∙ (ap (leave_call (pos 0) υ) (x ∙ j.runs) ∙ ap (value c.in-Err-Returned.word) d)))
     (omega (arith, j.fuel, k.fuel, c.bind.ensures.progress.fuel)) k.kept (k.ends ∙ p.ends)
 
-pub call-returns-in-Ended : goal.call-returns-in-Ended
-call-returns-in-Ended t c =
-    let p = call-ready _ _ _ _ c.requires.ready c.of-count.result c.requires.kind
-    c.of-count.ensures in
+pub call-returns-in-Err-Ended : goal.call-returns-in-Err-Ended
+call-returns-in-Err-Ended t c =
+    let p = call-ready _ _ _ _ c.requires.ready c.part_count-count.result c.requires.kind
+    c.part_count-count.ensures in
     let k = c.in_ok-next.ensures in
     let l = c.in-Some.ensures in
     let h : c.args.calls.opened < c.args.calls.depth =
@@ -901,18 +901,18 @@ call-returns-in-Ended t c =
     (record { bound = c.arguments.new.progress.bound; fuel = c.arguments.new.progress.fuel - 1 })) =
     less-room c.requires.ready.room (omega arith) (record
     { bindings = k.kept; names = omega arith; words = omega arith }) in
-    let n = enters c.args.table.now c.args.calls 0 c.in-Some.f c.of-count.result _
+    let n = enters c.args.table.now c.args.calls 0 c.in-Some.f c.part_count-count.result _
     (lent c.arguments.new.names c.arguments.new.words (table_bays c.arguments.new.bays)
     (record { bound = c.arguments.new.progress.bound; fuel = c.arguments.new.progress.fuel - 1 })) r
     h l p.takes in
-    let j = recast (Ended c.in-Ended.ending c.in-Ended.place) c.in-Ended.is c.in-Err.ensures in
+    let j = recast (Ended c.in-Err-Ended.end) c.in-Err-Ended.field-0-is c.in-Err-Ended.ensures in
     let z : c.arguments.new.progress.fuel ≡ suc (c.arguments.new.progress.fuel - 1) = omega arith in
     let υ : State ℤ = state (lent c.arguments.new.names c.arguments.new.words
     (table_bays c.arguments.new.bays) (record
     { bound = c.arguments.new.progress.bound; fuel = c.arguments.new.progress.fuel - 1 })) in
     let x = body-runs (setting c.args.table.now c.args.calls.depth) c.args.calls.opened
     (c.args.calls.opened + 1) (function_of (tree_at c.args.table.now c.in-Some.f)) _ _
-    c.arguments.new.given (0 + c.of-count.result) c.of-count.result υ
+    c.arguments.new.given (0 + c.part_count-count.result) c.part_count-count.result υ
     (state (lent c.bind.new.names c.bind.new.words (table_bays c.arguments.new.bays)
     c.bind.new.progress))
     n.body n.parameters (omega arith) (add-one c.args.calls.opened)

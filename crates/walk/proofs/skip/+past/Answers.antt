@@ -17,6 +17,6 @@ returns-then-at-table t c =
 pub returns : goal.returns
 returns t c =
     let h : c.args.at < _ = c.if-at-table.false in
-    let e = one_more c.args.table.now c.args.at c.args.count _ c.parts_of.result
-    c.parts_of.ensures h (omega arith) c.past-next.result c.past-next.ensures.next in
+    let e = one_more c.args.table.now c.args.at c.args.count _ c.part_count.result
+    c.part_count.ensures h (omega arith) c.past-next.result c.past-next.ensures.next in
     record { next = omega arith; within = omega arith }
