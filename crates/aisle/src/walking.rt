@@ -2,7 +2,7 @@
 use crate::wording::{Ended, print_refusal};
 use names::check::check_table;
 use racks::{BayTable, Rack};
-use script::Refusal;
+use script::{Limits, Refusal};
 use std::alloc::AllocError;
 use std::io;
 use texts::table::TableJob;
@@ -47,8 +47,10 @@ pub fn walk_job(rt: &HostRuntime, job: &TableJob) -> anyhow::Result<()> {
         &mut names,
         &mut words,
         &mut bays,
-        job.settings.fuel,
-        job.settings.depth,
+        Limits {
+            fuel: job.settings.fuel,
+            depth: job.settings.depth,
+        },
     ) {
         Ok(report) => {
             print_report(rt, report)?;

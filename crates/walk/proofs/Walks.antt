@@ -62,15 +62,17 @@ few-globals table a =
     omega (arith, variables-among (program_of table).declarations, e, k, f)
 
 -- The answers of a walk's checks, after the table has passed.
-module _ (table : List Record) (s : Summary) (e : Ok s ≡ table_rules table) (b d : Bool) (x y : Refusal) where
-  pub first-fails : b ≡ false → Err x ≡ and_then (table_rules table) (λ s. unless b x ⨟ unless d y)
-  first-fails h = rw (← e, h) refl
+module _ (table : List Record) (s : Summary) (e : Ok s ≡ table_rules table) (q r : Answer) where
+  pub first-fails : (x : Refusal) → Err x ≡ q → Err x ≡ and_then (table_rules table) (λ s. q ⨟ r)
+  first-fails x h = rw (← e, ← h) refl
 
-  pub second-fails : b ≡ true → d ≡ false → Err y ≡ and_then (table_rules table) (λ s. unless b x ⨟ unless d y)
-  second-fails h k = rw (← e, h, k) refl
+  pub second-counts : Ok tt ≡ q → (a : Answer) → a ≡ r → a ≡ and_then (table_rules table) (λ s. q ⨟ r)
+  second-counts h a k = rw (← e, ← h) k
 
-  pub all_pass : b ≡ true → d ≡ true → Ok tt ≡ and_then (table_rules table) (λ s. unless b x ⨟ unless d y)
-  all_pass h k = rw (← e, h, k) refl
+-- What passes `unless` is so.
+pub unless-passes : (b : Bool) (x : Refusal) → Ok tt ≡ unless b x → b ≡ true
+unless-passes true x e = refl
+unless-passes false x e = cc
 
 pub refused-table : (table : List Record) (x : Refusal) (names words fuel depth : ℕ) → Err x ≡ table_rules table →
     Err x ≡ walk_rules table names words fuel depth

@@ -17,8 +17,8 @@ use crate::state::{Calls, Progress, Stop, Valued, end_at};
 use crate::variables::{assign, word_of};
 use kinds::NumberKind;
 use racks::BayTable;
-use script::{Ending, Record};
 use script::rows::NodeKind;
+use script::{Ending, Record};
 use syntax::parts::{node_kind, part_count, statement_count};
 
 #[cycle(arguments_block_call_expression_repeat_statement_statements)]

@@ -22,16 +22,16 @@ returns-in_err-check_walk c =
     ap (λ (r : Result Report Refusal). leaves r c.args.names.now c.args.words.now
     (table_bays c.args.bays.now)) (q.1 ∙ ap Err q.2)
     ∙ ap (λ (a : Answer). walked_if a c.args.names.now c.args.words.now (table_bays c.args.bays.now)
-    c.args.fuel
-    (run_program counter every (program_of c.args.table.now) c.args.depth
-    (unbound c.args.names.now c.args.words.now (table_bays c.args.bays.now) c.args.fuel)))
+    c.args.limits.fuel
+    (run_program counter every (program_of c.args.table.now) c.args.limits.depth
+    (unbound c.args.names.now c.args.words.now (table_bays c.args.bays.now) c.args.limits.fuel)))
     c.in_err-check_walk.ensures.answer
 
 pub returns : goal.returns
 returns c =
     c.run_table.ensures
     ∙ ap (λ (a : Answer). walked_if a c.args.names.now c.args.words.now (table_bays c.args.bays.now)
-    c.args.fuel
-    (run_program counter every (program_of c.args.table.now) c.args.depth
-    (unbound c.args.names.now c.args.words.now (table_bays c.args.bays.now) c.args.fuel)))
+    c.args.limits.fuel
+    (run_program counter every (program_of c.args.table.now) c.args.limits.depth
+    (unbound c.args.names.now c.args.words.now (table_bays c.args.bays.now) c.args.limits.fuel)))
     c.in_ok-check_walk.ensures.answer

@@ -31,13 +31,13 @@ statement-outcome-requires c =
     let m : (program_of c.args.table.now).main ≡ statement_at c.args.table.now c.globals-main.result =
     ap (λ (q : Program). q.main) p.is in
     let n = ap need_statement m in
-    let e : (c.args.depth + 1) * need_in c.args.table.now
-    ≡ c.args.depth * need_in c.args.table.now + need_in c.args.table.now =
-    add-mul c.args.depth 1 (need_in c.args.table.now)
-    ∙ ap (λ (x : ℕ). c.args.depth * need_in c.args.table.now + x)
+    let e : (c.args.limits.depth + 1) * need_in c.args.table.now
+    ≡ c.args.limits.depth * need_in c.args.table.now + need_in c.args.table.now =
+    add-mul c.args.limits.depth 1 (need_in c.args.table.now)
+    ∙ ap (λ (x : ℕ). c.args.limits.depth * need_in c.args.table.now + x)
     (one-mul (need_in c.args.table.now)) in
-    let z : c.args.depth - 0 ≡ c.args.depth = omega arith in
-    let y : (c.args.depth - 0) * need_in c.args.table.now ≡ c.args.depth * need_in c.args.table.now =
+    let z : c.args.limits.depth - 0 ≡ c.args.limits.depth = omega arith in
+    let y : (c.args.limits.depth - 0) * need_in c.args.table.now ≡ c.args.limits.depth * need_in c.args.table.now =
     ap (λ (x : ℕ). x * need_in c.args.table.now) z in
     let b = c.globals-main.ensures.progress.count in
     record {
@@ -53,8 +53,8 @@ statement-outcome-requires c =
       };
     }
 
-pub overflow_sub-fuel : goal.overflow_sub-fuel
-overflow_sub-fuel c = omega (arith, c.statement-outcome.ensures.fuel, c.globals-main.ensures.progress.fuel)
+pub overflow_sub-limits : goal.overflow_sub-limits
+overflow_sub-limits c = omega (arith, c.statement-outcome.ensures.fuel, c.globals-main.ensures.progress.fuel)
 
 pub returns : goal.returns
 returns c =
@@ -64,12 +64,12 @@ returns c =
     let k = c.statement-outcome.ensures in
     ap (λ (r : Report). leaves (Ok r) c.statement-outcome.new.names c.statement-outcome.new.words
     (table_bays c.statement-outcome.new.bays)) c.report_on.ensures
-    ∙ run-shown c.args.fuel c.statement-outcome.result
-    (run_program counter every (program_of c.args.table.now) c.args.depth
-    (unbound c.args.names.now c.args.words.now (table_bays c.args.bays.now) c.args.fuel))
+    ∙ run-shown c.args.limits.fuel c.statement-outcome.result
+    (run_program counter every (program_of c.args.table.now) c.args.limits.depth
+    (unbound c.args.names.now c.args.words.now (table_bays c.args.bays.now) c.args.limits.fuel))
     (lent c.statement-outcome.new.names c.statement-outcome.new.words
     (table_bays c.statement-outcome.new.bays) c.statement-outcome.new.progress)
-    (program_runs (program_of c.args.table.now) c.args.depth _ _ _ _ (ap (λ (q : Program). q.main) p.is)
+    (program_runs (program_of c.args.table.now) c.args.limits.depth _ _ _ _ (ap (λ (q : Program). q.main) p.is)
     (ap globals_of p.is)
     (c.globals-main.ensures.bound (table_bays c.args.bays.now))
     ∙ k.runs)
