@@ -11,7 +11,7 @@ use Rattle.treerun.specs.Laws.{expression_run, statement_run}
 use Rattle.treerun.proofs.ByRules.{by-rules}
 use Rattle.walk.specs.declared.state.Stop.{Stop}
 use Rattle.walk.specs.declared.state.Stop.TheVariants.{Returned, Ended}
-use Rattle.walk.specs.Lent.{Lent, lent, state, setting, stopped, shown, answer_at, bays_after}
+use Rattle.walk.specs.Lent.{Lent, state, setting, stopped, shown, answer_at, bays_after}
 
 module _ {A A' : Type 0} {run : Outcome ℤ A} (next : A → State ℤ → Outcome ℤ A') where
   -- The first part has a value: the next runs.
@@ -59,7 +59,7 @@ module _ (S : Setting ℤ) (deep : ℕ → Statement → State ℤ → Outcome �
 -- What a bay answers, as a walk's answer.
 pub bay-answer : (place : ℕ) (b : BayAnswer ℤ) (l : Lent) →
     answered place b (state l) ≡ shown (λ w. w) (answer_at place b)
-    (state (lent l.names l.words (bays_after l.bays b) l.progress))
+    (state (record l { bays = bays_after l.bays b }))
 bay-answer place (gives w bays) l = refl
 bay-answer place (fails e) l = refl
 
@@ -76,17 +76,17 @@ pub reads : (place : ℕ) (o : Option ℕ) (l : Lent) (r : Result ℤ Stop) → 
 reads place o l r e =
     bay-answer place (read_bay l.bays o) l
     ∙ (ap (λ (bs : List ℤ). shown (λ w. w) (answer_at place (read_bay l.bays o))
-    (state (lent l.names l.words bs l.progress))) (read_keeps place l.bays o)
+    (state (record l { bays = bs }))) (read_keeps place l.bays o)
     ∙ ap (λ (r : Result ℤ Stop). shown (λ w. w) r (state l)) (sym e))
 
 pub writes : (place : ℕ) (b : BayAnswer ℤ) (l : Lent) (r : Result ℤ Stop) (bs : List ℤ) → r ≡ answer_at place b →
     bs ≡ bays_after l.bays b →
-    answered place b (state l) ≡ shown (λ w. w) r (state (lent l.names l.words bs l.progress))
+    answered place b (state l) ≡ shown (λ w. w) r (state (record l { bays = bs }))
 writes place b l r bs e f =
     bay-answer place b l
-    ∙ (ap (λ (bs : List ℤ). shown (λ w. w) (answer_at place b) (state (lent l.names l.words bs l.progress)))
+    ∙ (ap (λ (bs : List ℤ). shown (λ w. w) (answer_at place b) (state (record l { bays = bs })))
     (sym f)
-    ∙ ap (λ (r : Result ℤ Stop). shown (λ w. w) r (state (lent l.names l.words bs l.progress))) (sym e))
+    ∙ ap (λ (r : Result ℤ Stop). shown (λ w. w) r (state (record l { bays = bs }))) (sym e))
 
 -- The body of a function as a call runs it.
 pub body-runs : (S : Setting ℤ) (n m : ℕ) (f : Function) (b : Statement) (ps : List ℕ) (gs : List ℤ) (k v : ℕ)

@@ -4,31 +4,30 @@ use mathlib.Core.List.{reverse-cons}
 use Rattle.kinds.specs.Counter.{counter}
 use Rattle.syntax.specs.Syntax.{VariableDeclaration, declare}
 use Rattle.treerun.specs.TreeRun.{State, store, with_words, drop_to, bind_variables, bind_parameters}
-use Rattle.walk.specs.declared.state.Progress.{Progress}
-use Rattle.walk.specs.Lent.{Lent, lent, bound, fuel, state, pushed}
+use Rattle.walk.specs.Lent.{Lent, state, pushed}
 use Rattle.walk.proofs.Bindings.{rev-set, drop-set, oldest-is, behind-is}
 
 -- Where the bindings above an earlier count are dropped, only the count changes.
-pub dropped : (before l : Lent) (k : ℕ) → k ≡ bound before → k ≤ bound l → bound l ≤ length l.names →
-    bound l ≤ length l.words →
+pub dropped : (before l : Lent) (k : ℕ) → k ≡ before.bound → k ≤ l.bound → l.bound ≤ length l.names →
+    l.bound ≤ length l.words →
     k ≤ length before.names → k ≤ length before.words →
-    drop_to (state before) (state l) ≡ state (lent l.names l.words l.bays
-    (record { bound = k; fuel = fuel l }))
+    drop_to (state before) (state l) ≡ state (record l { bound = k })
 dropped before l k e h i j p q =
     rw (← e) (rw (
-      oldest-is l.names before.names k (bound l) h i p,
-      oldest-is l.words before.words k (bound l) h j q,
-      behind-is l.names before.names k (bound l) h i p,
-      behind-is l.words before.words k (bound l) h j q,
+      oldest-is l.names before.names k l.bound h i p,
+      oldest-is l.words before.words k l.bound h j q,
+      behind-is l.names before.names k l.bound h i p,
+      behind-is l.words before.words k l.bound h j q,
     ) refl)
 
 -- One binding is one element of each slice.
-pub pushed-is : (ns : List ℕ) (ws bs : List ℤ) (l : Progress) (x : ℕ) (w : ℤ) → l.bound < length ns →
-    l.bound < length ws →
-    state (lent (set ns l.bound x) (set ws l.bound w) bs (record { bound = l.bound + 1; fuel = l.fuel }))
-    ≡ pushed x w (state (lent ns ws bs l))
-pushed-is ns ws bs l x w h k =
+pub pushed-is : (l : Lent) (x : ℕ) (w : ℤ) → l.bound < length l.names → l.bound < length l.words →
+    state (record l { names = set l.names l.bound x; words = set l.words l.bound w; bound = l.bound + 1 })
+    ≡ pushed x w (state l)
+pushed-is l x w h k =
     let b : ℕ = l.bound in
+    let ns : List ℕ = l.names in
+    let ws : List ℤ = l.words in
     rw (
       add-one b,
       rev-set ns b x h,
@@ -81,9 +80,9 @@ parameter-pushed x ps gs from (suc n) σ z i =
 
 -- An assignment changes the words.
 pub assigned : (l : Lent) (ws : List ℤ) (x : ℕ) (w : ℤ) →
-    reverse (take (bound l) ws) ≡ store x w (reverse (take (bound l) l.names))
-    (reverse (take (bound l) l.words)) →
-    drop (bound l) ws ≡ drop (bound l) l.words →
+    reverse (take l.bound ws) ≡ store x w (reverse (take l.bound l.names))
+    (reverse (take l.bound l.words)) →
+    drop l.bound ws ≡ drop l.bound l.words →
     with_words (store x w (state l).names (state l).words) (state l)
-    ≡ state (lent l.names ws l.bays l.progress)
+    ≡ state (record l { words = ws })
 assigned l ws x w e d = rw (e, d) refl

@@ -22,7 +22,7 @@ use Rattle.treerun.specs.Laws.{statement_run}
 use Rattle.walk.specs.declared.state.Stop.{Stop}
 use Rattle.walk.specs.declared.state.Stop.TheVariants.{Returned, Ended}
 use Rattle.walk.specs.declared.state.Valued.{Valued}
-use Rattle.walk.specs.Lent.{Lent, bound, fuel, state, every, shown, word_of}
+use Rattle.walk.specs.Lent.{Lent, state, every, shown, word_of}
 use Rattle.walk.specs.Ready.{Accepted}
 use Rattle.walk.specs.Walked.{walk_rules, leaves, walked_by, report_on}
 
@@ -86,11 +86,11 @@ laid-over {A} n xs =
 
 -- The answer and the slices are those of the run.
 pub run-shown : (granted : ℕ) (r : Result Valued Stop) (o : Outcome ℤ ℤ) (l : Lent) → o ≡ shown word_of r (state l) →
-    leaves (Ok (report_on r (granted - fuel l))) l.names l.words l.bays ≡ walked_by granted o
-run-shown granted (Ok v) o l e = rw (e, laid-over (bound l) l.names, laid-over (bound l) l.words) refl
-run-shown granted (Err (Returned w)) o l e = rw (e, laid-over (bound l) l.names, laid-over (bound l) l.words)
+    leaves (Ok (report_on r (granted - l.fuel))) l.names l.words l.bays ≡ walked_by granted o
+run-shown granted (Ok v) o l e = rw (e, laid-over l.bound l.names, laid-over l.bound l.words) refl
+run-shown granted (Err (Returned w)) o l e = rw (e, laid-over l.bound l.names, laid-over l.bound l.words)
     refl
-run-shown granted (Err (Ended x)) o l e = rw (e, laid-over (bound l) l.names, laid-over (bound l) l.words)
+run-shown granted (Err (Ended x)) o l e = rw (e, laid-over l.bound l.names, laid-over l.bound l.words)
     refl
 
 -- The run of a program is that of its statement, once its globals are bound.

@@ -8,10 +8,8 @@ ghost use Rattle.walk.specs.Lent.{every};
 ghost use Rattle.walk.specs.Ready.{Accepted};
 ghost use Rattle.walk.specs.Walked.{room_for, leaves, walked_by};
 
-use crate::globals::globals;
 use crate::report::{Report, report_on};
-use crate::ring::statement;
-use crate::state::{Calls, Progress};
+use crate::walker::Walker;
 use racks::BayTable;
 use script::{Limits, Record};
 
@@ -30,16 +28,16 @@ pub fn run_table(
         ≡ walked_by limits.fuel (run_program counter every (program_of table.now) limits.depth
         (unbound names.old words.old (table_bays bays.old) limits.fuel)) }
 {
-    let mut progress = Progress {
+    let mut walker = Walker {
+        table,
+        depth: limits.depth as usize,
+        names,
+        words,
+        bays,
         bound: 0,
         fuel: limits.fuel,
     };
-    let count = table[0].a as usize;
-    let main = globals(table, count, 1, names, words, &mut progress);
-    let calls = Calls {
-        opened: 0,
-        depth: limits.depth as usize,
-    };
-    let outcome = statement(table, main, calls, names, words, bays, &mut progress);
-    report_on(outcome, limits.fuel - progress.fuel)
+    let main = walker.globals(table[0].a as usize, 1);
+    let outcome = walker.statement(main, 0);
+    report_on(outcome, limits.fuel - walker.fuel)
 }

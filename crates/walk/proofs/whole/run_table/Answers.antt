@@ -1,4 +1,4 @@
-use Rattle.std.proofs.Common.{◌≡◌, ℕ, ◌+◌, ◌-◌, ◌*◌, [], length, Ok, refl, ap, ◌∙◌, subst, add-mul, one-mul, arith}
+use Rattle.std.proofs.Common.{◌≡◌, ℕ, ◌+◌, ◌-◌, ◌*◌, [], length, Ok, refl, ap, ◌∙◌, subst, add-mul, one-mul, arith, rules}
 use Rattle.kinds.specs.Counter.{counter}
 use Rattle.racks.specs.Makes.{table_bays}
 use Rattle.syntax.specs.Syntax.{Program, Statement, globals_of}
@@ -9,9 +9,9 @@ use Rattle.names.specs.Need.{need_statement}
 use Rattle.names.specs.Scoped.{ScopedStatement}
 use Rattle.treerun.specs.TreeRun.{run_program, unbound}
 use Rattle.walk.specs.declared.report.Report.{Report}
-use Rattle.walk.specs.Lent.{lent, every}
+use Rattle.walk.specs.Lent.{lent_in, every}
 use Rattle.walk.specs.Ready.{globals_in, functions_in, need_in}
-use Rattle.walk.specs.Walked.{leaves}
+use Rattle.walk.specs.Walked.{leaves, walked_by}
 use Rattle.walk.proofs.Walks.{run-shown, program_runs}
 use Rattle.walk.proofs.whole.run_table.Goals as goal
 
@@ -40,7 +40,8 @@ statement-outcome-requires c =
     let y : (c.args.limits.depth - 0) * need_in c.args.table.now ≡ c.args.limits.depth * need_in c.args.table.now =
     ap (λ (x : ℕ). x * need_in c.args.table.now) z in
     let b = c.globals-main.ensures.progress.count in
-    record {
+    let s = c.globals-main.ensures.same in
+    rw (s.table, s.depth) record {
       part = record { within = p.within; sound = p.body };
       own = [];
       scoped = subst (λ (s : Statement). ScopedStatement (globals_in c.args.table.now)
@@ -54,22 +55,29 @@ statement-outcome-requires c =
     }
 
 pub overflow_sub-limits : goal.overflow_sub-limits
-overflow_sub-limits c = omega (arith, c.statement-outcome.ensures.fuel, c.globals-main.ensures.progress.fuel)
+overflow_sub-limits c = omega (arith, c.statement-outcome.ensures.ran.fuel, c.globals-main.ensures.progress.fuel)
 
 pub returns : goal.returns
 returns c =
     let a = c.requires.accepted in
+    let s = c.globals-main.ensures.same in
     let p = programmed c.args.table.now _ c.globals-main.result no_record a.some a.sound refl
     c.globals-main.ensures.next in
-    let k = c.statement-outcome.ensures in
-    ap (λ (r : Report). leaves (Ok r) c.statement-outcome.new.names c.statement-outcome.new.words
-    (table_bays c.statement-outcome.new.bays)) c.report_on.ensures
+    let k = rw (s.table, s.depth) at c.statement-outcome.ensures.ran in
+    let l = lent_in c.statement-outcome.new.self in
+    let u = c.statement-outcome.ensures.same in
+    let names_lender = u.names_lender ∙ s.names_lender in
+    let words_lender = u.words_lender ∙ s.words_lender in
+    let bays_lender = u.bays_lender ∙ s.bays_lender in
+    let whole : leaves (Ok c.report_on.result) l.names l.words l.bays
+    ≡ walked_by c.args.limits.fuel
+    (run_program counter every (program_of c.args.table.now) c.args.limits.depth
+    (unbound c.args.names.now c.args.words.now (table_bays c.args.bays.now) c.args.limits.fuel)) =
+    ap (λ (r : Report). leaves (Ok r) l.names l.words l.bays) c.report_on.ensures
     ∙ run-shown c.args.limits.fuel c.statement-outcome.result
     (run_program counter every (program_of c.args.table.now) c.args.limits.depth
-    (unbound c.args.names.now c.args.words.now (table_bays c.args.bays.now) c.args.limits.fuel))
-    (lent c.statement-outcome.new.names c.statement-outcome.new.words
-    (table_bays c.statement-outcome.new.bays) c.statement-outcome.new.progress)
+    (unbound c.args.names.now c.args.words.now (table_bays c.args.bays.now) c.args.limits.fuel)) l
     (program_runs (program_of c.args.table.now) c.args.limits.depth _ _ _ _ (ap (λ (q : Program). q.main) p.is)
-    (ap globals_of p.is)
-    (c.globals-main.ensures.bound (table_bays c.args.bays.now))
-    ∙ k.runs)
+    (ap globals_of p.is) c.globals-main.ensures.bound
+    ∙ k.runs) in
+    search rules

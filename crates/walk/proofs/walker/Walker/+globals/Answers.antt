@@ -9,51 +9,52 @@ use Rattle.syntax.specs.Typed.{declarations_at}
 use Rattle.syntax.proofs.Expressions.{firsts}
 use Rattle.syntax.proofs.Declarations.{first-variable}
 use Rattle.treerun.specs.TreeRun.{State, bind_variables}
-use Rattle.walk.specs.Lent.{lent, state, pushed}
+use Rattle.walk.specs.Lent.{lent_in, state, pushed}
 use Rattle.walk.proofs.Declared.{function-passed}
 use Rattle.walk.proofs.States.{variable-pushed}
-use Rattle.walk.proofs.globals.+globals.Goals as goal
+use Rattle.walk.proofs.walker.Walker.+globals.Goals as goal
 
 pub returns-then-count-eq0 : goal.returns-then-count-eq0
 returns-then-count-eq0 t c =
     let z = c.if-count-eq0.true in
-    let e : sizes (pieces c.args.table.now c.args.at c.args.count) ≡ 0 =
-    ap (λ (n : ℕ). sizes (pieces c.args.table.now c.args.at n)) z in
-    let l : length (variables_of (declarations_at c.args.table.now c.args.at c.args.count)) ≡ 0 =
-    ap (λ (n : ℕ). length (variables_of (declarations_at c.args.table.now c.args.at n))) z in
+    let e : sizes (pieces c.args.self.now.table.now c.args.at c.args.count) ≡ 0 =
+    ap (λ (n : ℕ). sizes (pieces c.args.self.now.table.now c.args.at n)) z in
+    let l : length (variables_of (declarations_at c.args.self.now.table.now c.args.at c.args.count)) ≡ 0 =
+    ap (λ (n : ℕ). length (variables_of (declarations_at c.args.self.now.table.now c.args.at n))) z in
     record {
-      bound = λ bays. sym (ap (λ (n : ℕ). bind_variables counter
-          (variables_of (declarations_at c.args.table.now c.args.at n))
-          (state (lent c.args.names.now c.args.words.now bays c.args.progress.now))) z);
+      bound = sym (ap (λ (n : ℕ). bind_variables counter
+          (variables_of (declarations_at c.args.self.now.table.now c.args.at n))
+          (state (lent_in c.args.self.now))) z);
       progress = record { count = omega arith; fuel = refl };
+      same = search rules;
       next = omega arith;
     }
 
-pub offset_bounds-table-at : goal.offset_bounds-table-at
-offset_bounds-table-at t c =
-    let h : c.args.at < length c.args.table.now =
-    (firsts c.args.table.now c.args.at c.args.count _ DeclarationSort (omega arith)
+pub offset_bounds-self-at : goal.offset_bounds-self-at
+offset_bounds-self-at t c =
+    let h : c.args.at < length c.args.self.now.table.now =
+    (firsts c.args.self.now.table.now c.args.at c.args.count _ DeclarationSort (omega arith)
     c.requires.sound refl).within in
     search rules
 
 pub overflow_add-at : goal.overflow_add-at
 overflow_add-at t c =
-    let h : c.args.at < length c.args.table.now =
-    (firsts c.args.table.now c.args.at c.args.count _ DeclarationSort (omega arith)
+    let h : c.args.at < length c.args.self.now.table.now =
+    (firsts c.args.self.now.table.now c.args.at c.args.count _ DeclarationSort (omega arith)
     c.requires.sound refl).within in
     search rules
 
-pub bounds-table-at : goal.bounds-table-at
-bounds-table-at t c = (firsts c.args.table.now c.args.at c.args.count _ DeclarationSort (omega arith)
+pub bounds-self-at : goal.bounds-self-at
+bounds-self-at t c = (firsts c.args.self.now.table.now c.args.at c.args.count _ DeclarationSort (omega arith)
     c.requires.sound refl).within
 
 pub skip-next-requires : goal.skip-next-requires
-skip-next-requires t c = (firsts c.args.table.now c.args.at c.args.count _ DeclarationSort
+skip-next-requires t c = (firsts c.args.self.now.table.now c.args.at c.args.count _ DeclarationSort
     (omega arith) c.requires.sound refl).within
 
 pub globals-requires : goal.globals-requires
 globals-requires t c =
-    let p = function-passed c.args.table.now c.args.at c.args.count c.skip-next.result (omega arith)
+    let p = function-passed c.args.self.now.table.now c.args.at c.args.count c.skip-next.result (omega arith)
     c.requires.sound
     (sym c.in-Function.ensures) c.skip-next.ensures in
     let l = ap (λ (ds : List Declaration). length (variables_of ds)) p.is in
@@ -61,58 +62,59 @@ globals-requires t c =
 
 pub returns-in-Function : goal.returns-in-Function
 returns-in-Function t c =
-    let p = function-passed c.args.table.now c.args.at c.args.count c.skip-next.result (omega arith)
+    let p = function-passed c.args.self.now.table.now c.args.at c.args.count c.skip-next.result (omega arith)
     c.requires.sound
     (sym c.in-Function.ensures) c.skip-next.ensures in
     let l = ap (λ (ds : List Declaration). length (variables_of ds)) p.is in
     record {
-      bound = λ bays. c.globals.ensures.bound bays
+      bound = c.globals.ensures.bound
           ∙ ap (λ (ds : List Declaration). bind_variables counter (variables_of ds)
-          (state (lent c.args.names.now c.args.words.now bays c.args.progress.now))) (sym p.is);
+          (state (lent_in c.args.self.now))) (sym p.is);
       progress = record {
         count = omega (arith, c.globals.ensures.progress.count);
-        fuel =
-            c.globals.ensures.progress.fuel;
+        fuel = c.globals.ensures.progress.fuel;
       };
+      same = c.globals.ensures.same;
       next = c.globals.ensures.next ∙ sym p.whole;
     }
 
 pub push-requires : goal.push-requires
 push-requires t c =
-    let p = first-variable c.args.table.now c.args.at c.args.count no_record (omega arith) c.requires.sound
+    let p = first-variable c.args.self.now.table.now c.args.at c.args.count no_record (omega arith) c.requires.sound
     (λ e. c.in_default.not-Function (c.node_kind.ensures ∙ e)) in
     let l = ap (λ (ds : List Declaration). length (variables_of ds)) p.is in
     record { names = omega (arith, c.requires.names); words = omega (arith, c.requires.words) }
 
 pub globals-requires-in_default : goal.globals-requires-in_default
 globals-requires-in_default t c =
-    let p = first-variable c.args.table.now c.args.at c.args.count no_record (omega arith) c.requires.sound
+    let p = first-variable c.args.self.now.table.now c.args.at c.args.count no_record (omega arith) c.requires.sound
     (λ e. c.in_default.not-Function (c.node_kind.ensures ∙ e)) in
     let l = ap (λ (ds : List Declaration). length (variables_of ds)) p.is in
     let b = c.push.ensures.progress.count in
-    (omega arith, (p.others, (omega (arith, c.requires.names), omega (arith, c.requires.words))))
+    let s = c.push.ensures.same in
+    (omega arith, rw s.table (p.others, (omega (arith, c.requires.names), omega (arith, c.requires.words))))
 
 pub returns-in_default : goal.returns-in_default
 returns-in_default t c =
-    let p = first-variable c.args.table.now c.args.at c.args.count no_record (omega arith) c.requires.sound
+    let p = first-variable c.args.self.now.table.now c.args.at c.args.count no_record (omega arith) c.requires.sound
     (λ e. c.in_default.not-Function (c.node_kind.ensures ∙ e)) in
     let l = ap (λ (ds : List Declaration). length (variables_of ds)) p.is in
-    let b = c.push.ensures.progress.count in
-    let r : Record = get_or c.args.table.now c.args.at no_record in
+    let s = c.push.ensures.same in
+    let r : Record = get_or c.args.self.now.table.now c.args.at no_record in
     let f : SFits w32 r.v = search rules in
+    let σ : State ℤ = state (lent_in c.args.self.now) in
     let ds : List VariableDeclaration = variables_of
-    (declarations_at c.args.table.now (c.args.at + 1) (c.args.count - 1)) in
+    (declarations_at c.args.self.now.table.now (c.args.at + 1) (c.args.count - 1)) in
     record {
-      bound = λ bays.
-          let σ : State ℤ = state (lent c.args.names.now c.args.words.now bays c.args.progress.now) in
-          c.globals-in_default.ensures.bound bays
-          ∙ (ap (bind_variables counter ds) (c.push.ensures.bound bays)
+      bound = rw s.table at c.globals-in_default.ensures.bound
+          ∙ (ap (bind_variables counter ds) c.push.ensures.bound
           ∙ (ap (λ (z : ℤ). bind_variables counter ds (pushed r.a z σ)) (to_z-of_z w32 r.v f)
           ∙ (variable-pushed c.args.at r.a r.v ds σ
           ∙ ap (λ (ds : List Declaration). bind_variables counter (variables_of ds) σ) (sym p.is))));
       progress = record {
-        count = omega (arith, c.globals-in_default.ensures.progress.count);
+        count = omega (arith, rw s.table at c.globals-in_default.ensures.progress.count);
         fuel = c.globals-in_default.ensures.progress.fuel ∙ c.push.ensures.progress.fuel;
       };
-      next = c.globals-in_default.ensures.next ∙ sym p.whole;
+      same = search rules;
+      next = rw s.table at c.globals-in_default.ensures.next ∙ sym p.whole;
     }

@@ -1,4 +1,4 @@
-use Rattle.walk.proofs.bind.+declare.Given as goal
+use Rattle.walk.proofs.walker.Walker.+declare.Given as goal
 
 abbrev pub decreases-declare : goal.decreases-declare
 decreases-declare l = l.count
