@@ -1,5 +1,5 @@
 // Bindings on top of those that stand, over what dropped ones have left there.
-ghost use Rattle.std.specs.Prelude.{◌≡◌, ◌+◌, ◌<◌, ◌≤◌, map, reverse, length, take, drop};
+ghost use Rattle.std.specs.Prelude.{◌≡◌, ◌+◌, ◌<◌, ◌≤◌, map, reverse, length};
 ghost use Rattle.kinds.specs.Counter.{counter};
 ghost use Rattle.syntax.specs.Syntax.{name_of};
 ghost use Rattle.syntax.specs.Trees.{pieces, Leaves};
@@ -8,6 +8,7 @@ ghost use Rattle.treerun.specs.TreeRun.{bind_variables, bind_parameters};
 ghost use Rattle.walk.specs.Lent.{lent_in, state, pushed, Same, Bound};
 
 use crate::walker::Walker;
+use script::Record;
 
 impl<'a> Walker<'a> {
     // One binding.
@@ -24,8 +25,20 @@ impl<'a> Walker<'a> {
         self.bound = top + 1;
     }
 
+    // The variable that a record declares.
+    pub fn declare_one(&mut self, node: Record)
+        requires names { self.old.bound < length self.old.names.now }
+        requires words { self.old.bound < length self.old.words.now }
+        ensures bound { state (lent_in self.new) ≡ pushed node.a node.v (state (lent_in self.old)) }
+        ensures progress { Bound self.old self.new 1 }
+        ensures same { Same self.old self.new }
+    {
+        self.push(node.a, node.v);
+    }
+
     // The variables declared by `count` records from `at`.
     pub fn declare(&mut self, at: usize, count: usize)
+        requires inside { at ≤ length self.old.table.now }
         requires plain { Leaves count (pieces self.old.table.now at count) }
         requires names { self.old.bound + count ≤ length self.old.names.now }
         requires words { self.old.bound + count ≤ length self.old.words.now }
@@ -35,32 +48,27 @@ impl<'a> Walker<'a> {
         ensures progress { Bound self.old self.new count }
         ensures same { Same self.old self.new }
     {
-        if count == 0 {
-            return;
+        let table = self.table;
+        for node in &table[at..at + count] {
+            self.declare_one(*node);
         }
-        let node = self.table[at];
-        self.push(node.a, node.v);
-        self.declare(at + 1, count - 1);
     }
 
-    // The parameters declared by `count` records from `at`, with the words given from `from` on.
-    pub fn bind(&mut self, at: usize, count: usize, given: &[i32], from: usize)
-        requires plain { Leaves count (pieces self.old.table.now at count) }
-        requires given { from + count ≤ length given.now }
-        requires names { self.old.bound + count ≤ length self.old.names.now }
-        requires words { self.old.bound + count ≤ length self.old.words.now }
+    // The parameters declared by the records from `at`, with the words given.
+    pub fn bind(&mut self, at: usize, given: &[i32])
+        requires inside { at ≤ length self.old.table.now }
+        requires plain { Leaves (length given.now) (pieces self.old.table.now at (length given.now)) }
+        requires names { self.old.bound + length given.now ≤ length self.old.names.now }
+        requires words { self.old.bound + length given.now ≤ length self.old.words.now }
         ensures bound { state (lent_in self.new)
-            ≡ bind_parameters (map name_of (variables_at self.old.table.now at count))
-            (reverse (take count (drop from given.now)))
-            (state (lent_in self.old)) }
-        ensures progress { Bound self.old self.new count }
+            ≡ bind_parameters (map name_of (variables_at self.old.table.now at (length given.now)))
+            (reverse given.now) (state (lent_in self.old)) }
+        ensures progress { Bound self.old self.new (length given.now) }
         ensures same { Same self.old self.new }
     {
-        if count == 0 {
-            return;
+        let table = self.table;
+        for (node, word) in table[at..].iter().zip(given) {
+            self.push(node.a, *word);
         }
-        let node = self.table[at];
-        self.push(node.a, given[from]);
-        self.bind(at + 1, count - 1, given, from + 1);
     }
 }

@@ -110,7 +110,7 @@ impl<'a> Walker<'a> {
         }
         self.fuel -= 1;
         let before = self.bound;
-        self.bind(f + 1, count, &given, 0);
+        self.bind(f + 1, &given[..count]);
         match self.statement(f + 1 + count, opened + 1) {
             Ok(_) => {
                 self.bound = before;

@@ -37,7 +37,7 @@ pub fn run_table(
         bound: 0,
         fuel: limits.fuel,
     };
-    let main = walker.globals(table[0].a as usize, 1);
+    let main = walker.globals();
     let outcome = walker.statement(main, 0);
     report_on(outcome, limits.fuel - walker.fuel)
 }

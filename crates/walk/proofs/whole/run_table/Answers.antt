@@ -1,7 +1,7 @@
-use Rattle.std.proofs.Common.{◌≡◌, ℕ, ◌+◌, ◌-◌, ◌*◌, [], length, Ok, refl, ap, ◌∙◌, subst, add-mul, one-mul, arith, rules}
+use Rattle.std.proofs.Common.{◌≡◌, ℕ, ◌+◌, ◌-◌, ◌*◌, [], Ok, refl, ap, ◌∙◌, subst, add-mul, one-mul, arith, rules}
 use Rattle.kinds.specs.Counter.{counter}
 use Rattle.racks.specs.Makes.{table_bays}
-use Rattle.syntax.specs.Syntax.{Program, Statement, globals_of}
+use Rattle.syntax.specs.Syntax.{Program, Statement}
 use Rattle.syntax.specs.Trees.{no_record}
 use Rattle.syntax.specs.Typed.{program_of, statement_at}
 use Rattle.syntax.proofs.Declarations.{programmed}
@@ -16,18 +16,17 @@ use Rattle.walk.proofs.Walks.{run-shown, program_runs}
 use Rattle.walk.proofs.whole.run_table.Goals as goal
 
 pub globals-main-requires : goal.globals-main-requires
-globals-main-requires c =
-    let a = c.requires.accepted in
-    let p = programmed c.args.table.now _ _ no_record a.some a.sound refl refl in
-    let e = ap (λ (q : Program). length (globals_of q)) p.is in
-    record { sound = p.declared; names = omega (arith, c.requires.names, e); words = omega (arith, c.requires.words, e) }
+globals-main-requires c = record {
+  accepted = c.requires.accepted;
+  names = omega (arith, c.requires.names);
+  words = omega (arith, c.requires.words);
+}
 
 pub statement-outcome-requires : goal.statement-outcome-requires
 statement-outcome-requires c =
     let a = c.requires.accepted in
     let p = programmed c.args.table.now _ c.globals-main.result no_record a.some a.sound refl
     c.globals-main.ensures.next in
-    let g = ap (λ (q : Program). length (globals_of q)) p.is in
     let m : (program_of c.args.table.now).main ≡ statement_at c.args.table.now c.globals-main.result =
     ap (λ (q : Program). q.main) p.is in
     let n = ap need_statement m in
@@ -78,6 +77,6 @@ returns c =
     (run_program counter every (program_of c.args.table.now) c.args.limits.depth
     (unbound c.args.names.now c.args.words.now (table_bays c.args.bays.now) c.args.limits.fuel)) l
     (program_runs (program_of c.args.table.now) c.args.limits.depth _ _ _ _ (ap (λ (q : Program). q.main) p.is)
-    (ap globals_of p.is) c.globals-main.ensures.bound
+    refl c.globals-main.ensures.bound
     ∙ k.runs) in
     search rules

@@ -1,5 +1,6 @@
 use Rattle.std.proofs.Common.{◌≡◌, ℕ, suc, ◌+◌, ◌-◌, ◌<◌, true, false, List, ◌∷◌, reverse, length, get_or, take, set, ℤ, pos, sym, refl, ap, ◌∙◌, add-one, arith, length-set, w32, SFits, to_z, of_z, rules}
 use Rattle.std.proofs.lemmas.Int.{to_z-of_z}
+use Rattle.std.proofs.lemmas.List.{length-take-le}
 use Rattle.std.proofs.lemmas.Result.{err_from_is_err_and}
 use Rattle.kinds.specs.Counter.{counter}
 use Rattle.script.specs.declared.rows.NodeKind.TheVariants as is
@@ -619,7 +620,7 @@ pub block-declare-requires : goal.block-declare-requires
 block-declare-requires t c =
     let p = block-ready _ _ _ _ _ _ c.statement_count-count.result c.requires.ready c.requires.kind refl
     c.statement_count-count.ensures in
-    record { plain = p.plain; names = p.names; words = p.words }
+    record { inside = omega (arith, c.requires.ready.part.within); plain = p.plain; names = p.names; words = p.words }
 
 pub block-statements-requires : goal.block-statements-requires
 block-statements-requires t c =
@@ -738,6 +739,18 @@ call-returns-then-self-eq0-clause-ran t c =
       ends = tt;
     }
 
+pub call-slice_bounds-given-end : goal.call-slice_bounds-given-end
+call-slice_bounds-given-end t c =
+    let p = call-ready _ _ _ _ _ c.requires.ready c.part_count-count.result c.requires.kind
+    c.part_count-count.ensures in
+    omega (arith, p.few)
+
+pub call-slice_bounds-bind-end : goal.call-slice_bounds-bind-end
+call-slice_bounds-bind-end t c =
+    let p = call-ready _ _ _ _ _ c.requires.ready c.part_count-count.result c.requires.kind
+    c.part_count-count.ensures in
+    sym (length-take-le c.part_count-count.result c.arguments.new.given (omega (arith, p.few)))
+
 pub call-bind-requires : goal.call-bind-requires
 call-bind-requires t c =
     let s = c.arguments.ensures.same in
@@ -747,7 +760,9 @@ call-bind-requires t c =
     let l = rw s.table at c.in-Some.ensures in
     let o = rw s.depth at c.if-opened-self.false in
     let n = enters _ c.requires.ready.room p.takes l o (lent_in c.arguments.new.self) (same-room s k.kept) in
-    rw s.table record { plain = n.plain; given = omega (arith, p.few); names = n.names; words = n.words }
+    let g : length (take c.part_count-count.result c.arguments.new.given) ≡ c.part_count-count.result =
+    length-take-le c.part_count-count.result c.arguments.new.given (omega (arith, p.few)) in
+    rw (s.table, g) record { inside = omega (arith, n.within); plain = n.plain; names = n.names; words = n.words }
 
 pub call-overflow_add-f-3 : goal.call-overflow_add-f-3
 call-overflow_add-f-3 t c =
@@ -772,9 +787,12 @@ call-statement-requires t c =
     let o = rw s.depth at c.if-opened-self.false in
     let n = enters _ c.requires.ready.room p.takes l o (lent_in c.arguments.new.self) (same-room s k.kept) in
     let u = c.bind.ensures.same in
+    let g : length (take c.part_count-count.result c.arguments.new.given) ≡ c.part_count-count.result =
+    length-take-le c.part_count-count.result c.arguments.new.given (omega (arith, p.few)) in
+    let e = rw g at c.bind.ensures.progress.count in
     let h = not-all c.requires.ready.room.below o in
     let d = deeper c.args.self.now.depth c.args.opened (length c.args.self.now.table.now + 1) h in
-    let i = n.ready (lent_in c.bind.new.self) c.bind.ensures.progress.count u.names_length u.words_length in
+    let i = n.ready (lent_in c.bind.new.self) e u.names_length u.words_length in
     rw (u.table, u.depth, s.table, s.depth) (omega (arith, n.within, d), i)
 
 pub call-returns-in-Ok-clause-ran : goal.call-returns-in-Ok-clause-ran
@@ -787,7 +805,9 @@ call-returns-in-Ok-clause-ran t c =
     let o = rw s.depth at c.if-opened-self.false in
     let n = enters _ c.requires.ready.room p.takes l o (lent_in c.arguments.new.self) (same-room s k.kept) in
     let u = c.bind.ensures.same in
-    let e = c.bind.ensures.progress.count in
+    let g : length (take c.part_count-count.result c.arguments.new.given) ≡ c.part_count-count.result =
+    length-take-le c.part_count-count.result c.arguments.new.given (omega (arith, p.few)) in
+    let e = rw g at c.bind.ensures.progress.count in
     let z : c.arguments.new.self.fuel ≡ suc (c.arguments.new.self.fuel - 1) = omega arith in
     let lent₁ : Lent = record (lent_in c.arguments.new.self) { fuel = c.arguments.new.self.fuel - 1 } in
     let υ : State ℤ = state lent₁ in
@@ -797,7 +817,7 @@ call-returns-in-Ok-clause-ran t c =
     c.arguments.new.given (0 + c.part_count-count.result) c.part_count-count.result υ
     (state (lent_in c.bind.new.self))
     n.body n.parameters (omega arith) (add-one c.args.opened)
-    (rw s.table at c.bind.ensures.bound) in
+    (rw (s.table, g) at c.bind.ensures.bound) in
     let y = (by-rules (setting_in c.args.self.now)).of_call _ _ _ _ _
     ∙ (goes_on _ _ _ k.runs
     ∙ entered (setting_in c.args.self.now)
@@ -824,7 +844,9 @@ call-returns-in-Err-Returned-clause-ran t c =
     let o = rw s.depth at c.if-opened-self.false in
     let n = enters _ c.requires.ready.room p.takes l o (lent_in c.arguments.new.self) (same-room s k.kept) in
     let u = c.bind.ensures.same in
-    let e = c.bind.ensures.progress.count in
+    let g : length (take c.part_count-count.result c.arguments.new.given) ≡ c.part_count-count.result =
+    length-take-le c.part_count-count.result c.arguments.new.given (omega (arith, p.few)) in
+    let e = rw g at c.bind.ensures.progress.count in
     let z : c.arguments.new.self.fuel ≡ suc (c.arguments.new.self.fuel - 1) = omega arith in
     let lent₁ : Lent = record (lent_in c.arguments.new.self) { fuel = c.arguments.new.self.fuel - 1 } in
     let υ : State ℤ = state lent₁ in
@@ -834,7 +856,7 @@ call-returns-in-Err-Returned-clause-ran t c =
     c.arguments.new.given (0 + c.part_count-count.result) c.part_count-count.result υ
     (state (lent_in c.bind.new.self))
     n.body n.parameters (omega arith) (add-one c.args.opened)
-    (rw s.table at c.bind.ensures.bound) in
+    (rw (s.table, g) at c.bind.ensures.bound) in
     let y = (by-rules (setting_in c.args.self.now)).of_call _ _ _ _ _
     ∙ (goes_on _ _ _ k.runs
     ∙ entered (setting_in c.args.self.now)
@@ -860,7 +882,9 @@ call-returns-in-Err-Ended-clause-ran t c =
     let o = rw s.depth at c.if-opened-self.false in
     let n = enters _ c.requires.ready.room p.takes l o (lent_in c.arguments.new.self) (same-room s k.kept) in
     let u = c.bind.ensures.same in
-    let e = c.bind.ensures.progress.count in
+    let g : length (take c.part_count-count.result c.arguments.new.given) ≡ c.part_count-count.result =
+    length-take-le c.part_count-count.result c.arguments.new.given (omega (arith, p.few)) in
+    let e = rw g at c.bind.ensures.progress.count in
     let z : c.arguments.new.self.fuel ≡ suc (c.arguments.new.self.fuel - 1) = omega arith in
     let lent₁ : Lent = record (lent_in c.arguments.new.self) { fuel = c.arguments.new.self.fuel - 1 } in
     let υ : State ℤ = state lent₁ in
@@ -870,7 +894,7 @@ call-returns-in-Err-Ended-clause-ran t c =
     c.arguments.new.given (0 + c.part_count-count.result) c.part_count-count.result υ
     (state (lent_in c.bind.new.self))
     n.body n.parameters (omega arith) (add-one c.args.opened)
-    (rw s.table at c.bind.ensures.bound) in
+    (rw (s.table, g) at c.bind.ensures.bound) in
     let y = (by-rules (setting_in c.args.self.now)).of_call _ _ _ _ _
     ∙ (goes_on _ _ _ k.runs
     ∙ entered (setting_in c.args.self.now)
