@@ -1,5 +1,5 @@
 use Rattle.std.proofs.Common.{◌-◌, ◌<◌, length, sym, ◌∙◌, arith, rules}
-use Rattle.walk.proofs.Declared.{sought-in-all, next-within, past-variable, past-function, located-here, none-left}
+use Rattle.walk.proofs.Declared.{sought-in-all, next-within, past-variable, past-function, located-here}
 use Rattle.walk.proofs.functions.function.Goals as goal
 use Rattle.walk.proofs.functions.function.Goals.{in-Function+else-name-node, in_default}
 
@@ -37,6 +37,3 @@ loop-preserved c =
         | in_default w ↦ rw w.at-is (past-variable s (omega arith) (λ e. w.in_default.not-Function (c.node_kind.ensures ∙ e)))
       ],
     )
-
-pub returns : goal.returns
-returns c = none-left c.loop.invariant.2 (omega arith)

@@ -1,5 +1,5 @@
 use Rattle.std.proofs.Common.{◌-◌, ◌<◌, length, sym, refl, ◌∙◌, arith, rules}
-use Rattle.walk.proofs.GlobalBindings.{binding-begins, declared-within, function-passes, variable-counts, variable-binds, all-declared}
+use Rattle.walk.proofs.GlobalBindings.{binding-begins, declared-within, function-passes, variable-counts, variable-binds}
 use Rattle.walk.proofs.walker.Walker.globals.Goals as goal
 use Rattle.walk.proofs.walker.Walker.globals.Goals.{in-Function, in_default}
 
@@ -45,14 +45,3 @@ loop-preserved c =
       ],
       refl,
     )
-
-pub returns : goal.returns
-returns c =
-    let p = all-declared c.loop.invariant.2 (omega arith) in
-    let s = p.1 in
-    record {
-      bound = s.bound;
-      progress = record { count = omega (arith, s.count); fuel = s.fuel };
-      same = s.same;
-      next = p.0;
-    }
