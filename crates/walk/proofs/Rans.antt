@@ -1,26 +1,28 @@
 -- What a node has come to, from what its parts have come to.
 use Rattle.std.proofs.Common.{◌≡◌, ℕ, ◌≤◌, length, ℤ, Ok, Err, Result, sym, ap, ◌∙◌, arith}
+use Rattle.std.proofs.lemmas.Result.{err_from_is_err_and}
+use Rattle.std.specs.Result.{IsErrAnd}
 use Rattle.treerun.specs.TreeRun.{Outcome, value}
 use Rattle.walk.specs.declared.state.Stop.{Stop}
 use Rattle.walk.specs.Lent.{Lent, state, stopped, Ran, RanPart}
 
 module _ {A B : Type 0} {means : B → A} {next : B → ℕ} {end : ℕ} where
-  -- No value, after parts that had one.
-  pub refuses : {a : Lent} {s : Stop} (b₀ : Lent) (q : Outcome ℤ A) (r : Result B Stop) →
-      ((y : Stop) × (r ≡ Err y) × (y ≡ s)) →
+  -- No value, after parts that had one: a `?` returns what it was given.
+  pub refuses : {a : Lent} (s : Stop) (b₀ : Lent) (q : Outcome ℤ A) (r : Result B Stop) → IsErrAnd r (λ y. y ≡ s) →
       a.fuel ≤ b₀.fuel → b₀.bound ≤ a.bound → a.bound ≤ length a.names → a.bound ≤ length a.words →
       q ≡ stopped s (state a) → Ran q r means next end b₀ a
-  refuses {a} {s} b₀ q r e f h i j x =
-      let z : r ≡ Err s = e.1 ∙ ap Err e.2 in
+  refuses {a} s b₀ q r e f h i j x =
+      let y = err_from_is_err_and r e in
+      let z : r ≡ Err s = y.1 ∙ ap Err y.2 in
       rw z record { runs = x; fuel = f; kept = (h, i, j); ends = tt }
 
   -- A part that has no value: neither has the node.
   pub passes : {A' B' : Type 0} {p : Outcome ℤ A'} {means' : B' → A'} {next' : B' → ℕ} {end' : ℕ} {b a : Lent}
       {s : Stop} →
-      (b₀ : Lent) (q : Outcome ℤ A) (r : Result B Stop) → ((y : Stop) × (r ≡ Err y) × (y ≡ s)) →
+      (b₀ : Lent) (q : Outcome ℤ A) (r : Result B Stop) → IsErrAnd r (λ y. y ≡ s) →
       b₀.bound ≤ b.bound → b.fuel ≤ b₀.fuel → Ran p (Err s) means' next' end' b a → q ≡ stopped s (state a) →
       Ran q r means next end b₀ a
-  passes b₀ q r e h f k x = refuses b₀ q r e (omega (arith, k.fuel)) (omega (arith, k.kept.0)) k.kept.1
+  passes b₀ q r e h f k x = refuses _ b₀ q r e (omega (arith, k.fuel)) (omega (arith, k.kept.0)) k.kept.1
       k.kept.2 x
 
   -- A node that comes to what its last part comes to.

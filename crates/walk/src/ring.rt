@@ -111,17 +111,13 @@ impl<'a> Walker<'a> {
         self.fuel -= 1;
         let before = self.bound;
         self.bind(f + 1, &given[..count]);
-        match self.statement(f + 1 + count, opened + 1) {
-            Ok(_) => {
-                self.bound = before;
-                Ok(Valued { word: 0, next })
-            }
-            Err(Stop::Returned(word)) => {
-                self.bound = before;
-                Ok(Valued { word, next })
-            }
-            Err(Stop::Ended(end)) => Err(Stop::Ended(end)),
-        }
+        let word = match self.statement(f + 1 + count, opened + 1) {
+            Ok(_) => 0,
+            Err(Stop::Returned(word)) => word,
+            Err(Stop::Ended(end)) => return Err(Stop::Ended(end)),
+        };
+        self.bound = before;
+        Ok(Valued { word, next })
     }
 
     #[cycle(walk)]

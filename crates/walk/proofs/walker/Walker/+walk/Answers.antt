@@ -1,7 +1,6 @@
 use Rattle.std.proofs.Common.{◌≡◌, ℕ, suc, ◌+◌, ◌-◌, ◌<◌, true, false, List, ◌∷◌, reverse, length, get_or, take, set, ℤ, pos, sym, refl, ap, ◌∙◌, add-one, arith, length-set, w32, SFits, to_z, of_z, rules}
 use Rattle.std.proofs.lemmas.Int.{to_z-of_z}
 use Rattle.std.proofs.lemmas.List.{length-take-le}
-use Rattle.std.proofs.lemmas.Result.{err_from_is_err_and}
 use Rattle.kinds.specs.Counter.{counter}
 use Rattle.script.specs.declared.rows.NodeKind.TheVariants as is
 use Rattle.syntax.specs.Syntax.{no_argument, no_statement}
@@ -18,11 +17,12 @@ use Rattle.walk.proofs.Bindings.{eqb-true, eqb-ne, rev-set}
 use Rattle.walk.proofs.Rans.{refuses, passes, follows, gives, recast}
 use Rattle.walk.proofs.Readies.{assign-ready, bay-read-ready, two_part_ready, bay_write_ready, call-ready, evaluate-ready, return-ready, while-ready, if-ready}
 use Rattle.walk.proofs.Readies.{first-argument, first-statement, block-ready, same-room, not-all, deeper, enters}
-use Rattle.walk.proofs.Runs.{goes_on, stops, no_fuel, block-stops, too_deep, without-fuel, entered, no-function, body-runs, reads, writes}
+use Rattle.walk.proofs.Runs.{goes_on, stops, no_fuel, block-stops, too_deep, without-fuel, no-function, call-runs, reads, writes}
 use Rattle.walk.proofs.Runs.{test-stops, test_zero, body-stops, begins-over}
 use Rattle.walk.proofs.States.{dropped}
 use Rattle.walk.proofs.Views.{no-parts, no_other}
 use Rattle.walk.proofs.walker.Walker.+walk.Goals as goal
+use Rattle.walk.proofs.walker.Walker.+walk.Goals.{call-in-Ok, call-in-Err-Returned}
 
 pub expression-expression-requires : goal.expression-expression-requires
 expression-expression-requires t c =
@@ -33,7 +33,7 @@ pub expression-returns-in_err-x-in-TwoPart-clause-ran : goal.expression-returns-
 expression-returns-in_err-x-in-TwoPart-clause-ran t c =
     let p = two_part_ready _ _ _ _ _ c.requires _ refl _ (sym c.in-TwoPart.ensures) in
     let k = c.in_err-x-in-TwoPart.ensures.ran in
-    passes _ _ _ (err_from_is_err_and c.from_residual.result c.from_residual.ensures.1) (omega arith)
+    passes _ _ _ c.from_residual.ensures.1 (omega arith)
     (omega arith) k
     (rw p.is ((by-rules (setting_in c.args.self.now)).of_binary _ _ _ _ _ _
     ∙ stops _ _ _ k.runs))
@@ -55,7 +55,7 @@ expression-returns-in_err-y-in-TwoPart-clause-ran t c =
     let j = rw (s.table, s.depth) at c.in_err-y-in-TwoPart.ensures.ran in
     let p = two_part_ready _ _ _ _ _ c.requires c.in_ok-x-in-TwoPart.x.next k.ends _
     (sym c.in-TwoPart.ensures) in
-    passes _ _ _ (err_from_is_err_and c.from_residual-in_err-y-in-TwoPart.result c.from_residual-in_err-y-in-TwoPart.ensures.1)
+    passes _ _ _ c.from_residual-in_err-y-in-TwoPart.ensures.1
     (omega (arith, k.kept)) k.fuel j
     (rw p.is ((by-rules (setting_in c.args.self.now)).of_binary _ _ _ _ _ _
     ∙ (goes_on _ _ _ k.runs ∙ stops _ _ _ j.runs)))
@@ -69,7 +69,7 @@ pub expression-returns-in_err-x-in-Assignment-clause-ran : goal.expression-retur
 expression-returns-in_err-x-in-Assignment-clause-ran t c =
     let p = assign-ready _ _ _ _ _ c.requires (sym c.in-Assignment.ensures) in
     let k = c.in_err-x-in-Assignment.ensures.ran in
-    passes _ _ _ (err_from_is_err_and c.from_residual-in_err-x-in-Assignment.result c.from_residual-in_err-x-in-Assignment.ensures.1)
+    passes _ _ _ c.from_residual-in_err-x-in-Assignment.ensures.1
     (omega arith) (omega arith) k
     (rw p.is ((by-rules (setting_in c.args.self.now)).of_assign _ _ _ _ _
     ∙ stops _ _ _ k.runs))
@@ -83,7 +83,7 @@ pub expression-returns-in_err-x-in-BayRead-clause-ran : goal.expression-returns-
 expression-returns-in_err-x-in-BayRead-clause-ran t c =
     let p = bay-read-ready _ _ _ _ _ c.requires (sym c.in-BayRead.ensures) in
     let k = c.in_err-x-in-BayRead.ensures.ran in
-    passes _ _ _ (err_from_is_err_and c.from_residual-in_err-x-in-BayRead.result c.from_residual-in_err-x-in-BayRead.ensures.1)
+    passes _ _ _ c.from_residual-in_err-x-in-BayRead.ensures.1
     (omega arith) (omega arith) k
     (rw p.is ((by-rules (setting_in c.args.self.now)).of_bay_read _ _ _ _
     ∙ stops _ _ _ k.runs))
@@ -94,8 +94,7 @@ expression-returns-in_err-word-in-BayRead-clause-ran t c =
     let k = c.in_ok-x-in-BayRead.ensures.ran in
     let f : SFits w32 c.in_ok-x-in-BayRead.x.word = search rules in
     let b = simp to_z-of_z at c.in_err-word-in-BayRead.ensures in
-    refuses _ _ _ (err_from_is_err_and c.from_residual-in_err-word-in-BayRead.result
-    c.from_residual-in_err-word-in-BayRead.ensures.1) k.fuel (omega (arith, k.kept))
+    refuses _ _ _ _ c.from_residual-in_err-word-in-BayRead.ensures.1 k.fuel (omega (arith, k.kept))
     (omega (arith, k.kept, c.requires.room.names)) (omega (arith, k.kept, c.requires.room.words))
     (rw p.is ((by-rules (setting_in c.args.self.now)).of_bay_read _ _ _ _
     ∙ (goes_on _ _ _ k.runs ∙ reads c.args.at _
@@ -110,7 +109,7 @@ pub expression-returns-in_err-x-in-BayWrite-clause-ran : goal.expression-returns
 expression-returns-in_err-x-in-BayWrite-clause-ran t c =
     let p = bay_write_ready _ _ _ _ _ c.requires _ refl (sym c.in-BayWrite.ensures) in
     let k = c.in_err-x-in-BayWrite.ensures.ran in
-    passes _ _ _ (err_from_is_err_and c.from_residual-in_err-x-in-BayWrite.result c.from_residual-in_err-x-in-BayWrite.ensures.1)
+    passes _ _ _ c.from_residual-in_err-x-in-BayWrite.ensures.1
     (omega arith) (omega arith) k
     (rw p.is ((by-rules (setting_in c.args.self.now)).of_bay_write _ _ _ _ _
     ∙ stops _ _ _ k.runs))
@@ -132,7 +131,7 @@ expression-returns-in_err-y-in-BayWrite-clause-ran t c =
     let j = rw (s.table, s.depth) at c.in_err-y-in-BayWrite.ensures.ran in
     let p = bay_write_ready _ _ _ _ _ c.requires c.in_ok-x-in-BayWrite.x.next k.ends
     (sym c.in-BayWrite.ensures) in
-    passes _ _ _ (err_from_is_err_and c.from_residual-in_err-y-in-BayWrite.result c.from_residual-in_err-y-in-BayWrite.ensures.1)
+    passes _ _ _ c.from_residual-in_err-y-in-BayWrite.ensures.1
     (omega (arith, k.kept)) k.fuel j
     (rw p.is ((by-rules (setting_in c.args.self.now)).of_bay_write _ _ _ _ _
     ∙ (goes_on _ _ _ k.runs ∙ stops _ _ _ j.runs)))
@@ -148,8 +147,7 @@ expression-returns-in_err-word-in-BayWrite-clause-ran t c =
     let g : SFits w32 c.in_ok-y-in-BayWrite.y.word = search rules in
     let b = simp to_z-of_z at c.in_err-word-in-BayWrite.ensures.answer in
     let d = simp to_z-of_z at c.in_err-word-in-BayWrite.ensures.bays in
-    refuses _ _ _ (err_from_is_err_and c.from_residual-in_err-word-in-BayWrite.result
-    c.from_residual-in_err-word-in-BayWrite.ensures.1) (omega (arith, k.fuel, j.fuel))
+    refuses _ _ _ _ c.from_residual-in_err-word-in-BayWrite.ensures.1 (omega (arith, k.fuel, j.fuel))
     (omega (arith, k.kept, j.kept))
     (omega (arith, k.kept, j.kept, c.requires.room.names)) (omega (arith, k.kept, j.kept, c.requires.room.words))
     (rw p.is ((by-rules (setting_in c.args.self.now)).of_bay_write _ _ _ _ _
@@ -265,7 +263,7 @@ pub arguments-returns-in_err-x-clause-ran : goal.arguments-returns-in_err-x-clau
 arguments-returns-in_err-x-clause-ran t c =
     let p = first-argument _ _ _ _ _ _ c.requires.ready (omega arith) _ refl in
     let k = c.in_err-x.ensures.ran in
-    passes _ _ _ (err_from_is_err_and c.from_residual.result c.from_residual.ensures.1) (omega arith)
+    passes _ _ _ c.from_residual.ensures.1 (omega arith)
     (omega arith) k
     (rw p.is ((by-rules (setting_in c.args.self.now)).of_argument _ _ _ _ _
     ∙ stops _ _ _ k.runs))
@@ -326,7 +324,7 @@ pub statements-returns-in_err-first-clause-ran : goal.statements-returns-in_err-
 statements-returns-in_err-first-clause-ran t c =
     let p = first-statement _ _ _ _ _ _ c.requires (omega arith) _ refl in
     let k = c.in_err-first.ensures.ran in
-    passes _ _ _ (err_from_is_err_and c.from_residual.result c.from_residual.ensures.1) (omega arith)
+    passes _ _ _ c.from_residual.ensures.1 (omega arith)
     (omega arith) k
     (rw p.is ((by-rules (setting_in c.args.self.now)).of_then _ _ _ _
     ∙ stops _ _ _ k.runs))
@@ -364,7 +362,7 @@ pub statement-returns-in_err-x-in-Return-clause-ran : goal.statement-returns-in_
 statement-returns-in_err-x-in-Return-clause-ran t c =
     let p = return-ready _ _ _ _ _ c.requires (sym c.in-Return.ensures) in
     let k = c.in_err-x-in-Return.ensures.ran in
-    passes _ _ _ (err_from_is_err_and c.from_residual.result c.from_residual.ensures.1) (omega arith)
+    passes _ _ _ c.from_residual.ensures.1 (omega arith)
     (omega arith) k
     (rw p.is ((by-rules (setting_in c.args.self.now)).of_give_back _ _ _ _
     ∙ stops _ _ _ k.runs))
@@ -378,8 +376,7 @@ pub statement-returns-in_err-test-in-If-clause-ran : goal.statement-returns-in_e
 statement-returns-in_err-test-in-If-clause-ran t c =
     let p = if-ready _ _ _ _ _ c.requires _ _ refl refl (sym c.in-If.ensures) in
     let k = c.in_err-test-in-If.ensures.ran in
-    passes _ _ _ (err_from_is_err_and c.from_residual-in_err-test-in-If.result
-    c.from_residual-in_err-test-in-If.ensures.1) (omega arith) (omega arith) k
+    passes _ _ _ c.from_residual-in_err-test-in-If.ensures.1 (omega arith) (omega arith) k
     (rw p.is ((by-rules (setting_in c.args.self.now)).of_if_else _ _ _ _ _ _
     ∙ stops _ _ _ k.runs))
 
@@ -420,8 +417,7 @@ statement-returns-in_err-first-in-If-clause-ran t c =
     let f : SFits w32 c.in_ok-test-in-If.test.word = search rules in
     let y : counter.zero c.in_ok-test-in-If.test.word ≡ false =
     sym (simp to_z-of_z at c.if-is_zero.ensures) in
-    passes _ _ _ (err_from_is_err_and c.from_residual-in_err-first-in-If.result
-    c.from_residual-in_err-first-in-If.ensures.1) (omega (arith, k.kept)) k.fuel j
+    passes _ _ _ c.from_residual-in_err-first-in-If.ensures.1 (omega (arith, k.kept)) k.fuel j
     (rw p.is ((by-rules (setting_in c.args.self.now)).of_if_else _ _ _ _ _ _
     ∙ (goes_on _ _ _ k.runs ∙ rw y j.runs)))
 
@@ -513,7 +509,7 @@ repeat-returns-in_err-test-clause-ran t c =
     let k = rw (s.table, s.depth) at c.in_err-test.ensures.ran in
     let p = while-ready _ _ _ _ _ c.requires.ready _ refl c.requires.kind in
     let z : c.loop-self.self.fuel ≡ suc (c.loop-self.self.fuel - 1) = omega arith in
-    passes _ _ _ (err_from_is_err_and c.from_residual.result c.from_residual.ensures.1)
+    passes _ _ _ c.from_residual.ensures.1
     (omega (arith, i.bound)) (omega (arith, i.fuel)) k
     (i.runs ∙ rw p.is (test-stops c.args.self.now.table.now c.args.self.now.depth
     c.args.opened c.args.at _ _
@@ -567,8 +563,7 @@ repeat-returns-in_err-_done-clause-ran t c =
     let y : counter.zero c.in_ok-test.test.word ≡ false =
     sym (simp to_z-of_z at c.if-is_zero.ensures) in
     let z : c.loop-self.self.fuel ≡ suc (c.loop-self.self.fuel - 1) = omega arith in
-    passes _ _ _ (err_from_is_err_and c.from_residual-in_err-_done.result
-    c.from_residual-in_err-_done.ensures.1) (omega (arith, k.kept, i.bound))
+    passes _ _ _ c.from_residual-in_err-_done.ensures.1 (omega (arith, k.kept, i.bound))
     (omega (arith, k.fuel, i.fuel)) j
     (i.runs ∙ rw p.is (body-stops c.args.self.now.table.now c.args.self.now.depth
     c.args.opened c.args.at _ _
@@ -640,7 +635,7 @@ block-returns-in_err-next-clause-ran t c =
     (statements_at c.args.self.now.table.now (c.args.at + 1 + (get_or c.args.self.now.table.now c.args.at no_record).a)
     c.statement_count-count.result) c.args.opened σ)
     (sym c.declare.ensures.bound) in
-    passes _ _ _ (err_from_is_err_and c.from_residual.result c.from_residual.ensures.1)
+    passes _ _ _ c.from_residual.ensures.1
     (omega (arith, c.declare.ensures.progress.count)) (omega (arith, c.declare.ensures.progress.fuel)) k
     (rw p.is ((by-rules (setting_in c.args.self.now)).of_block _ _ _ _ _
     ∙ (ap (leave_block (pos 0) (state (lent_in c.args.self.now))) (b ∙ k.runs)
@@ -678,7 +673,7 @@ call-returns-in_err-next-clause-ran t c =
     let p = call-ready _ _ _ _ _ c.requires.ready c.part_count-count.result c.requires.kind
     c.part_count-count.ensures in
     let k = c.in_err-next.ensures.ran in
-    passes _ _ _ (err_from_is_err_and c.from_residual.result c.from_residual.ensures.1) (omega arith)
+    passes _ _ _ c.from_residual.ensures.1 (omega arith)
     (omega arith) k
     (rw p.is ((by-rules (setting_in c.args.self.now)).of_call _ _ _ _ _
     ∙ stops _ _ _ k.runs))
@@ -795,8 +790,8 @@ call-statement-requires t c =
     let i = n.ready (lent_in c.bind.new.self) e u.names_length u.words_length in
     rw (u.table, u.depth, s.table, s.depth) (omega (arith, n.within, d), i)
 
-pub call-returns-in-Ok-clause-ran : goal.call-returns-in-Ok-clause-ran
-call-returns-in-Ok-clause-ran t c =
+pub call-returns-clause-ran : goal.call-returns-clause-ran
+call-returns-clause-ran t c =
     let s = c.arguments.ensures.same in
     let p = call-ready _ _ _ _ _ c.requires.ready c.part_count-count.result c.requires.kind
     c.part_count-count.ensures in
@@ -812,65 +807,30 @@ call-returns-in-Ok-clause-ran t c =
     let lent₁ : Lent = record (lent_in c.arguments.new.self) { fuel = c.arguments.new.self.fuel - 1 } in
     let υ : State ℤ = state lent₁ in
     let v = c.statement.ensures.same in
-    let x = body-runs (setting_in c.args.self.now) c.args.opened
-    (c.args.opened + 1) (function_of (tree_at c.args.self.now.table.now c.in-Some.f)) _ _
-    c.arguments.new.given (0 + c.part_count-count.result) c.part_count-count.result υ
-    (state (lent_in c.bind.new.self))
-    n.body n.parameters (omega arith) (add-one c.args.opened)
+    let y = call-runs (setting_in c.args.self.now) c.args.at _ _ c.args.opened _ (state (lent_in c.arguments.new.self))
+    c.arguments.new.given (0 + c.part_count-count.result) c.part_count-count.result
+    (c.arguments.new.self.fuel - 1) (function_of (tree_at c.args.self.now.table.now c.in-Some.f)) _ _
+    (state (lent_in c.bind.new.self)) k.runs l.is (eqb-ne _ _ o) z n.body n.parameters (omega arith)
     (rw (s.table, g) at c.bind.ensures.bound) in
-    let y = (by-rules (setting_in c.args.self.now)).of_call _ _ _ _ _
-    ∙ (goes_on _ _ _ k.runs
-    ∙ entered (setting_in c.args.self.now)
-    (λ calls s σ. statement_run (setting_in c.args.self.now) s calls σ) c.args.at
-    c.args.opened (function_of (tree_at c.args.self.now.table.now c.in-Some.f)) l.is _
-    (state (lent_in c.arguments.new.self))
-    (eqb-ne _ _ o) (c.arguments.new.self.fuel - 1) z) in
-    let j = rw (u.table, u.depth, s.table, s.depth) at c.in-Ok.ensures.ran in
-    let d = dropped lent₁ (lent_in c.statement.new.self) c.arguments.new.self.bound refl
-    (omega (arith, j.kept, e)) (omega (arith, j.kept, e, n.names, v.names_length, u.names_length))
-    (omega (arith, j.kept, e, n.words, v.words_length, u.words_length))
-    (omega (arith, n.names)) (omega (arith, n.words)) in
-    gives _ _ _ _ _ _ _ refl
-    (rw p.is (y ∙ (ap (leave_call (pos 0) υ) (x ∙ j.runs) ∙ ap (value (pos 0)) d)))
-    (omega (arith, j.fuel, k.fuel, c.bind.ensures.progress.fuel)) k.kept (k.ends ∙ p.ends)
-
-pub call-returns-in-Err-Returned-clause-ran : goal.call-returns-in-Err-Returned-clause-ran
-call-returns-in-Err-Returned-clause-ran t c =
-    let s = c.arguments.ensures.same in
-    let p = call-ready _ _ _ _ _ c.requires.ready c.part_count-count.result c.requires.kind
-    c.part_count-count.ensures in
-    let k = c.in_ok-next.ensures.ran in
-    let l = rw s.table at c.in-Some.ensures in
-    let o = rw s.depth at c.if-opened-self.false in
-    let n = enters _ c.requires.ready.room p.takes l o (lent_in c.arguments.new.self) (same-room s k.kept) in
-    let u = c.bind.ensures.same in
-    let g : length (take c.part_count-count.result c.arguments.new.given) ≡ c.part_count-count.result =
-    length-take-le c.part_count-count.result c.arguments.new.given (omega (arith, p.few)) in
-    let e = rw g at c.bind.ensures.progress.count in
-    let z : c.arguments.new.self.fuel ≡ suc (c.arguments.new.self.fuel - 1) = omega arith in
-    let lent₁ : Lent = record (lent_in c.arguments.new.self) { fuel = c.arguments.new.self.fuel - 1 } in
-    let υ : State ℤ = state lent₁ in
-    let v = c.statement.ensures.same in
-    let x = body-runs (setting_in c.args.self.now) c.args.opened
-    (c.args.opened + 1) (function_of (tree_at c.args.self.now.table.now c.in-Some.f)) _ _
-    c.arguments.new.given (0 + c.part_count-count.result) c.part_count-count.result υ
-    (state (lent_in c.bind.new.self))
-    n.body n.parameters (omega arith) (add-one c.args.opened)
-    (rw (s.table, g) at c.bind.ensures.bound) in
-    let y = (by-rules (setting_in c.args.self.now)).of_call _ _ _ _ _
-    ∙ (goes_on _ _ _ k.runs
-    ∙ entered (setting_in c.args.self.now)
-    (λ calls s σ. statement_run (setting_in c.args.self.now) s calls σ) c.args.at
-    c.args.opened (function_of (tree_at c.args.self.now.table.now c.in-Some.f)) l.is _
-    (state (lent_in c.arguments.new.self))
-    (eqb-ne _ _ o) (c.arguments.new.self.fuel - 1) z) in
-    let j = rw (u.table, u.depth, s.table, s.depth) at (recast (Returned c.in-Err-Returned.word) c.in-Err-Returned.field-0-is c.in-Err-Returned.ensures.ran) in
-    let f : SFits w32 c.in-Err-Returned.word = search rules in
-    let d = dropped lent₁ (lent_in c.statement.new.self) c.arguments.new.self.bound refl
-    (omega (arith, j.kept.0, e)) j.kept.1 j.kept.2 (omega (arith, n.names)) (omega (arith, n.words)) in
-    gives _ _ _ _ _ _ _ (to_z-of_z w32 c.in-Err-Returned.word f)
-    (rw p.is (y ∙ (ap (leave_call (pos 0) υ) (x ∙ j.runs) ∙ ap (value c.in-Err-Returned.word) d)))
-    (omega (arith, j.fuel, k.fuel, c.bind.ensures.progress.fuel)) k.kept (k.ends ∙ p.ends)
+    elim c.match-statement.branch [
+      | call-in-Ok w ↦
+          let j = rw (u.table, u.depth, s.table, s.depth) at w.in-Ok.ensures.ran in
+          let d = dropped lent₁ (lent_in c.statement.new.self) c.arguments.new.self.bound refl
+          (omega (arith, j.kept, e)) (omega (arith, j.kept, e, n.names, v.names_length, u.names_length))
+          (omega (arith, j.kept, e, n.words, v.words_length, u.words_length))
+          (omega (arith, n.names)) (omega (arith, n.words)) in
+          gives _ _ _ _ (pos 0) _ _ w.word-is
+          (rw p.is (y ∙ (ap (leave_call (pos 0) υ) j.runs ∙ ap (value (pos 0)) d)))
+          (omega (arith, j.fuel, k.fuel, c.bind.ensures.progress.fuel)) k.kept (k.ends ∙ p.ends)
+      | call-in-Err-Returned w ↦
+          let j = rw (u.table, u.depth, s.table, s.depth) at (recast (Returned w.in-Err-Returned.word) w.in-Err-Returned.field-0-is w.in-Err-Returned.ensures.ran) in
+          let d = dropped lent₁ (lent_in c.statement.new.self) c.arguments.new.self.bound refl
+          (omega (arith, j.kept.0, e)) j.kept.1 j.kept.2 (omega (arith, n.names)) (omega (arith, n.words)) in
+          let f : SFits w32 w.in-Err-Returned.word = search rules in
+          gives _ _ _ _ w.in-Err-Returned.word _ _ (w.word-is ∙ to_z-of_z w32 w.in-Err-Returned.word f)
+          (rw p.is (y ∙ (ap (leave_call (pos 0) υ) j.runs ∙ ap (value w.in-Err-Returned.word) d)))
+          (omega (arith, j.fuel, k.fuel, c.bind.ensures.progress.fuel)) k.kept (k.ends ∙ p.ends)
+    ]
 
 pub call-returns-in-Err-Ended-clause-ran : goal.call-returns-in-Err-Ended-clause-ran
 call-returns-in-Err-Ended-clause-ran t c =
@@ -889,22 +849,14 @@ call-returns-in-Err-Ended-clause-ran t c =
     let lent₁ : Lent = record (lent_in c.arguments.new.self) { fuel = c.arguments.new.self.fuel - 1 } in
     let υ : State ℤ = state lent₁ in
     let v = c.statement.ensures.same in
-    let x = body-runs (setting_in c.args.self.now) c.args.opened
-    (c.args.opened + 1) (function_of (tree_at c.args.self.now.table.now c.in-Some.f)) _ _
-    c.arguments.new.given (0 + c.part_count-count.result) c.part_count-count.result υ
-    (state (lent_in c.bind.new.self))
-    n.body n.parameters (omega arith) (add-one c.args.opened)
+    let y = call-runs (setting_in c.args.self.now) c.args.at _ _ c.args.opened _ (state (lent_in c.arguments.new.self))
+    c.arguments.new.given (0 + c.part_count-count.result) c.part_count-count.result
+    (c.arguments.new.self.fuel - 1) (function_of (tree_at c.args.self.now.table.now c.in-Some.f)) _ _
+    (state (lent_in c.bind.new.self)) k.runs l.is (eqb-ne _ _ o) z n.body n.parameters (omega arith)
     (rw (s.table, g) at c.bind.ensures.bound) in
-    let y = (by-rules (setting_in c.args.self.now)).of_call _ _ _ _ _
-    ∙ (goes_on _ _ _ k.runs
-    ∙ entered (setting_in c.args.self.now)
-    (λ calls s σ. statement_run (setting_in c.args.self.now) s calls σ) c.args.at
-    c.args.opened (function_of (tree_at c.args.self.now.table.now c.in-Some.f)) l.is _
-    (state (lent_in c.arguments.new.self))
-    (eqb-ne _ _ o) (c.arguments.new.self.fuel - 1) z) in
     let j = rw (u.table, u.depth, s.table, s.depth) at (recast (Ended c.in-Err-Ended.end) c.in-Err-Ended.field-0-is c.in-Err-Ended.ensures.ran) in
     record {
-      runs = rw p.is (y ∙ ap (leave_call (pos 0) υ) (x ∙ j.runs));
+      runs = rw p.is (y ∙ ap (leave_call (pos 0) υ) j.runs);
       fuel = omega (arith, j.fuel, k.fuel, c.bind.ensures.progress.fuel);
       kept = (omega (arith, j.kept.0, k.kept, e), j.kept.1, j.kept.2);
       ends = tt;
