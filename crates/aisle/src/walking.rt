@@ -36,8 +36,7 @@ pub fn walk_job(rt: &HostRuntime, job: &TableJob) -> anyhow::Result<()> {
         &mut names,
         &mut words,
         &mut bays,
-        limits.fuel,
-        limits.depth,
+        limits,
     ) {
         Ok(report) => {
             print_report(rt, report)?;

@@ -5,22 +5,19 @@ ghost use Rattle.racks.specs.Makes.{table_bays};
 ghost use Rattle.treerun.specs.TreeRun.{read_bay, write_bay};
 ghost use Rattle.walk.specs.Lent.{every, answer_at, bays_after};
 
-use crate::state::Stop;
+use crate::state::{Stop, end_at};
 use kinds::NumberKind;
-use racks::{BayFault, BayTable, Rack};
-use script::ending::Ending;
+use racks::{BayTable, Rack};
+use script::Ending;
 
 // The word in the bay. A word that names no slot ends the run at the record `at`.
 pub fn read_bay(bays: &BayTable, named: i32, at: usize) -> Result<i32, Stop>
     ensures { result ≡ answer_at at (read_bay (table_bays bays.now) (counter.slot named)) }
 {
     let Some(slot) = named.slot() else {
-        return Err(Stop::Ended(Ending::NoSuchBay, at));
+        return Err(end_at(Ending::NoSuchBay, at));
     };
-    let Some(word) = bays.read(slot) else {
-        return Err(Stop::Ended(Ending::NoSuchBay, at));
-    };
-    Ok(word)
+    bays.read(slot).ok_or(end_at(Ending::NoSuchBay, at))
 }
 
 // The word written.
@@ -32,13 +29,10 @@ pub fn write_bay(bays: &mut BayTable, named: i32, word: i32, at: usize) -> Resul
         (write_bay every (table_bays bays.old) (counter.slot named) word) }
 {
     let Some(slot) = named.slot() else {
-        return Err(Stop::Ended(Ending::NoSuchBay, at));
+        return Err(end_at(Ending::NoSuchBay, at));
     };
     match bays.write(slot, word) {
-        Ok(_) => Ok(word),
-        Err(fault) => match fault {
-            BayFault::NoSuchBay => Err(Stop::Ended(Ending::NoSuchBay, at)),
-            BayFault::CannotHold => Err(Stop::Ended(Ending::CannotHold, at)),
-        },
+        Ok(()) => Ok(word),
+        Err(fault) => Err(end_at(Ending::from(fault), at)),
     }
 }
