@@ -16,7 +16,7 @@ use script::Ending;
 use script::rows::NodeKind;
 use syntax::parts::{node_kind, part_count, statement_count};
 
-// `opened` calls are open.
+// `opened` calls are open. Argument lists and statements recurse like the rest of the ring, by a rule of the project.
 impl<'a> Walker<'a> {
     #[cycle(walk)]
     pub fn expression(&mut self, at: usize, opened: usize) -> Result<Valued, Stop>

@@ -5,7 +5,7 @@ ghost use Rattle.syntax.specs.Trees.{tree_at, pieces, size, sizes};
 use script::Record;
 use script::rows::part_count;
 
-// The index after `count` parts from `at`.
+// The index after `count` parts from `at`. Parts have parts, so this stays a recursive function, by a rule of the project.
 fn past(table: &[Record], count: usize, at: usize) -> usize
     requires { at ≤ length table.now }
     ensures next { result ≡ at + sizes (pieces table.now at count) }
