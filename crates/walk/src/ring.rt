@@ -1,5 +1,5 @@
 // The walk of expressions, argument lists, calls, statements, whiles and blocks, each of which calls others.
-ghost use Rattle.std.specs.Prelude.{◌≡◌, ◌+◌, ◌≤◌, reverse, length, take, pos};
+ghost use Rattle.std.specs.Prelude.{◌+◌, ◌≤◌, reverse, length, take};
 ghost use Rattle.script.specs.declared.rows.NodeKind.TheVariants as is;
 ghost use Rattle.walk.specs.Lent.{Same};
 ghost use Rattle.walk.specs.Ready.{Is};

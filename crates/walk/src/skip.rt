@@ -1,5 +1,5 @@
 // Where a part that does not run ends.
-ghost use Rattle.std.specs.Prelude.{◌≡◌, ℕ, ◌+◌, ◌<◌, ◌≤◌, length};
+ghost use Rattle.std.specs.Prelude.{◌≡◌, ◌+◌, ◌<◌, ◌≤◌, length};
 ghost use Rattle.syntax.specs.Trees.{tree_at, pieces, size, sizes};
 
 use script::Record;
