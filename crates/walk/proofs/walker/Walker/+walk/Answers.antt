@@ -26,12 +26,12 @@ use Rattle.walk.proofs.walker.Walker.+walk.Goals.{call-in-Ok, call-in-Err-Return
 
 pub expression-expression-requires : goal.expression-expression-requires
 expression-expression-requires t c =
-    let p = two_part_ready _ _ _ _ _ c.requires _ refl _ (sym c.in-TwoPart.ensures) in
+    let p = two_part_ready c.requires _ refl _ (sym c.in-TwoPart.ensures) in
     (omega (arith, p.first.part.within), p.first)
 
 pub expression-returns-in_err-x-in-TwoPart-clause-ran : goal.expression-returns-in_err-x-in-TwoPart-clause-ran
 expression-returns-in_err-x-in-TwoPart-clause-ran t c =
-    let p = two_part_ready _ _ _ _ _ c.requires _ refl _ (sym c.in-TwoPart.ensures) in
+    let p = two_part_ready c.requires _ refl _ (sym c.in-TwoPart.ensures) in
     let k = c.in_err-x-in-TwoPart.ensures.ran in
     passes _ _ _ c.from_residual.ensures.1 (omega arith)
     (omega arith) k
@@ -42,7 +42,7 @@ pub expression-expression-requires-in-TwoPart : goal.expression-expression-requi
 expression-expression-requires-in-TwoPart t c =
     let s = c.expression.ensures.same in
     let k = c.in_ok-x-in-TwoPart.ensures.ran in
-    let p = two_part_ready _ _ _ _ _ c.requires c.in_ok-x-in-TwoPart.x.next k.ends _
+    let p = two_part_ready c.requires c.in_ok-x-in-TwoPart.x.next k.ends _
     (sym c.in-TwoPart.ensures) in
     let r = p.second (lent_in c.expression.new.self)
     (same-room s k.kept) in
@@ -53,7 +53,7 @@ expression-returns-in_err-y-in-TwoPart-clause-ran t c =
     let s = c.expression.ensures.same in
     let k = c.in_ok-x-in-TwoPart.ensures.ran in
     let j = rw (s.table, s.depth) at c.in_err-y-in-TwoPart.ensures.ran in
-    let p = two_part_ready _ _ _ _ _ c.requires c.in_ok-x-in-TwoPart.x.next k.ends _
+    let p = two_part_ready c.requires c.in_ok-x-in-TwoPart.x.next k.ends _
     (sym c.in-TwoPart.ensures) in
     passes _ _ _ c.from_residual-in_err-y-in-TwoPart.ensures.1
     (omega (arith, k.kept)) k.fuel j
@@ -62,12 +62,12 @@ expression-returns-in_err-y-in-TwoPart-clause-ran t c =
 
 pub expression-expression-requires-in-Assignment : goal.expression-expression-requires-in-Assignment
 expression-expression-requires-in-Assignment t c =
-    let p = assign-ready _ _ _ _ _ c.requires (sym c.in-Assignment.ensures) in
+    let p = assign-ready c.requires (sym c.in-Assignment.ensures) in
     (omega (arith, p.part.part.within), p.part)
 
 pub expression-returns-in_err-x-in-Assignment-clause-ran : goal.expression-returns-in_err-x-in-Assignment-clause-ran
 expression-returns-in_err-x-in-Assignment-clause-ran t c =
-    let p = assign-ready _ _ _ _ _ c.requires (sym c.in-Assignment.ensures) in
+    let p = assign-ready c.requires (sym c.in-Assignment.ensures) in
     let k = c.in_err-x-in-Assignment.ensures.ran in
     passes _ _ _ c.from_residual-in_err-x-in-Assignment.ensures.1
     (omega arith) (omega arith) k
@@ -76,12 +76,12 @@ expression-returns-in_err-x-in-Assignment-clause-ran t c =
 
 pub expression-expression-requires-in-BayRead : goal.expression-expression-requires-in-BayRead
 expression-expression-requires-in-BayRead t c =
-    let p = bay-read-ready _ _ _ _ _ c.requires (sym c.in-BayRead.ensures) in
+    let p = bay-read-ready c.requires (sym c.in-BayRead.ensures) in
     (omega (arith, p.part.part.within), p.part)
 
 pub expression-returns-in_err-x-in-BayRead-clause-ran : goal.expression-returns-in_err-x-in-BayRead-clause-ran
 expression-returns-in_err-x-in-BayRead-clause-ran t c =
-    let p = bay-read-ready _ _ _ _ _ c.requires (sym c.in-BayRead.ensures) in
+    let p = bay-read-ready c.requires (sym c.in-BayRead.ensures) in
     let k = c.in_err-x-in-BayRead.ensures.ran in
     passes _ _ _ c.from_residual-in_err-x-in-BayRead.ensures.1
     (omega arith) (omega arith) k
@@ -90,7 +90,7 @@ expression-returns-in_err-x-in-BayRead-clause-ran t c =
 
 pub expression-returns-in_err-word-in-BayRead-clause-ran : goal.expression-returns-in_err-word-in-BayRead-clause-ran
 expression-returns-in_err-word-in-BayRead-clause-ran t c =
-    let p = bay-read-ready _ _ _ _ _ c.requires (sym c.in-BayRead.ensures) in
+    let p = bay-read-ready c.requires (sym c.in-BayRead.ensures) in
     let k = c.in_ok-x-in-BayRead.ensures.ran in
     let f : SFits w32 c.in_ok-x-in-BayRead.x.word = search rules in
     let b = simp to_z-of_z at c.in_err-word-in-BayRead.ensures in
@@ -102,12 +102,12 @@ expression-returns-in_err-word-in-BayRead-clause-ran t c =
 
 pub expression-expression-requires-in-BayWrite : goal.expression-expression-requires-in-BayWrite
 expression-expression-requires-in-BayWrite t c =
-    let p = bay_write_ready _ _ _ _ _ c.requires _ refl (sym c.in-BayWrite.ensures) in
+    let p = bay_write_ready c.requires _ refl (sym c.in-BayWrite.ensures) in
     (omega (arith, p.first.part.within), p.first)
 
 pub expression-returns-in_err-x-in-BayWrite-clause-ran : goal.expression-returns-in_err-x-in-BayWrite-clause-ran
 expression-returns-in_err-x-in-BayWrite-clause-ran t c =
-    let p = bay_write_ready _ _ _ _ _ c.requires _ refl (sym c.in-BayWrite.ensures) in
+    let p = bay_write_ready c.requires _ refl (sym c.in-BayWrite.ensures) in
     let k = c.in_err-x-in-BayWrite.ensures.ran in
     passes _ _ _ c.from_residual-in_err-x-in-BayWrite.ensures.1
     (omega arith) (omega arith) k
@@ -118,7 +118,7 @@ pub expression-expression-requires-in-BayWrite-2 : goal.expression-expression-re
 expression-expression-requires-in-BayWrite-2 t c =
     let s = c.expression-in-BayWrite.ensures.same in
     let k = c.in_ok-x-in-BayWrite.ensures.ran in
-    let p = bay_write_ready _ _ _ _ _ c.requires c.in_ok-x-in-BayWrite.x.next k.ends
+    let p = bay_write_ready c.requires c.in_ok-x-in-BayWrite.x.next k.ends
     (sym c.in-BayWrite.ensures) in
     let r = p.second (lent_in c.expression-in-BayWrite.new.self)
     (same-room s k.kept) in
@@ -129,7 +129,7 @@ expression-returns-in_err-y-in-BayWrite-clause-ran t c =
     let s = c.expression-in-BayWrite.ensures.same in
     let k = c.in_ok-x-in-BayWrite.ensures.ran in
     let j = rw (s.table, s.depth) at c.in_err-y-in-BayWrite.ensures.ran in
-    let p = bay_write_ready _ _ _ _ _ c.requires c.in_ok-x-in-BayWrite.x.next k.ends
+    let p = bay_write_ready c.requires c.in_ok-x-in-BayWrite.x.next k.ends
     (sym c.in-BayWrite.ensures) in
     passes _ _ _ c.from_residual-in_err-y-in-BayWrite.ensures.1
     (omega (arith, k.kept)) k.fuel j
@@ -141,7 +141,7 @@ expression-returns-in_err-word-in-BayWrite-clause-ran t c =
     let s = c.expression-in-BayWrite.ensures.same in
     let k = c.in_ok-x-in-BayWrite.ensures.ran in
     let j = rw (s.table, s.depth) at c.in_ok-y-in-BayWrite.ensures.ran in
-    let p = bay_write_ready _ _ _ _ _ c.requires c.in_ok-x-in-BayWrite.x.next k.ends
+    let p = bay_write_ready c.requires c.in_ok-x-in-BayWrite.x.next k.ends
     (sym c.in-BayWrite.ensures) in
     let f : SFits w32 c.in_ok-x-in-BayWrite.x.word = search rules in
     let g : SFits w32 c.in_ok-y-in-BayWrite.y.word = search rules in
@@ -176,7 +176,7 @@ expression-returns-in_ok-y-in-TwoPart-clause-ran t c =
     let s = c.expression.ensures.same in
     let k = c.in_ok-x-in-TwoPart.ensures.ran in
     let j = rw (s.table, s.depth) at c.in_ok-y-in-TwoPart.ensures.ran in
-    let p = two_part_ready _ _ _ _ _ c.requires c.in_ok-x-in-TwoPart.x.next k.ends _
+    let p = two_part_ready c.requires c.in_ok-x-in-TwoPart.x.next k.ends _
     (sym c.in-TwoPart.ensures) in
     let f : SFits w32 c.in_ok-x-in-TwoPart.x.word = search rules in
     let g : SFits w32 c.in_ok-y-in-TwoPart.y.word = search rules in
@@ -188,7 +188,7 @@ expression-returns-in_ok-y-in-TwoPart-clause-ran t c =
 
 pub expression-returns-in_ok-x-in-Assignment-clause-ran : goal.expression-returns-in_ok-x-in-Assignment-clause-ran
 expression-returns-in_ok-x-in-Assignment-clause-ran t c =
-    let p = assign-ready _ _ _ _ _ c.requires (sym c.in-Assignment.ensures) in
+    let p = assign-ready c.requires (sym c.in-Assignment.ensures) in
     let k = c.in_ok-x-in-Assignment.ensures.ran in
     let f : SFits w32 c.in_ok-x-in-Assignment.x.word = search rules in
     let b = rw (to_z-of_z w32 c.in_ok-x-in-Assignment.x.word f) at c.assign.ensures.bindings in
@@ -202,7 +202,7 @@ expression-returns-in_ok-x-in-Assignment-clause-ran t c =
 
 pub expression-returns-in_ok-word-in-BayRead-clause-ran : goal.expression-returns-in_ok-word-in-BayRead-clause-ran
 expression-returns-in_ok-word-in-BayRead-clause-ran t c =
-    let p = bay-read-ready _ _ _ _ _ c.requires (sym c.in-BayRead.ensures) in
+    let p = bay-read-ready c.requires (sym c.in-BayRead.ensures) in
     let k = c.in_ok-x-in-BayRead.ensures.ran in
     let f : SFits w32 c.in_ok-x-in-BayRead.x.word = search rules in
     let g : SFits w32 c.in_ok-word-in-BayRead.word = search rules in
@@ -218,7 +218,7 @@ expression-returns-in_ok-word-in-BayWrite-clause-ran t c =
     let s = c.expression-in-BayWrite.ensures.same in
     let k = c.in_ok-x-in-BayWrite.ensures.ran in
     let j = rw (s.table, s.depth) at c.in_ok-y-in-BayWrite.ensures.ran in
-    let p = bay_write_ready _ _ _ _ _ c.requires c.in_ok-x-in-BayWrite.x.next k.ends
+    let p = bay_write_ready c.requires c.in_ok-x-in-BayWrite.x.next k.ends
     (sym c.in-BayWrite.ensures) in
     let f : SFits w32 c.in_ok-x-in-BayWrite.x.word = search rules in
     let g : SFits w32 c.in_ok-y-in-BayWrite.y.word = search rules in
@@ -256,12 +256,12 @@ arguments-returns-then-count-eq0-clause-ran t c =
 
 pub arguments-expression-requires : goal.arguments-expression-requires
 arguments-expression-requires t c =
-    let p = first-argument _ _ _ _ _ _ c.requires.ready (omega arith) _ refl in
+    let p = first-argument c.requires.ready (omega arith) _ refl in
     (omega arith, p.first)
 
 pub arguments-returns-in_err-x-clause-ran : goal.arguments-returns-in_err-x-clause-ran
 arguments-returns-in_err-x-clause-ran t c =
-    let p = first-argument _ _ _ _ _ _ c.requires.ready (omega arith) _ refl in
+    let p = first-argument c.requires.ready (omega arith) _ refl in
     let k = c.in_err-x.ensures.ran in
     passes _ _ _ c.from_residual.ensures.1 (omega arith)
     (omega arith) k
@@ -272,7 +272,7 @@ pub arguments-arguments-requires : goal.arguments-arguments-requires
 arguments-arguments-requires t c =
     let s = c.expression.ensures.same in
     let k = c.in_ok-x.ensures.ran in
-    let p = first-argument _ _ _ _ _ _ c.requires.ready (omega arith) c.in_ok-x.x.next k.ends in
+    let p = first-argument c.requires.ready (omega arith) c.in_ok-x.x.next k.ends in
     let r = p.others (lent_in c.expression.new.self)
     (same-room s k.kept) in
     rw (s.table, s.depth) (omega (arith, p.first.part.within, p.later), (r, simp length-set (omega (arith, c.requires.given))))
@@ -282,7 +282,7 @@ arguments-returns-clause-ran t c =
     let s = c.expression.ensures.same in
     let k = c.in_ok-x.ensures.ran in
     let j = c.arguments.ensures.ran in
-    let p = first-argument _ _ _ _ _ _ c.requires.ready (omega arith) c.in_ok-x.x.next k.ends in
+    let p = first-argument c.requires.ready (omega arith) c.in_ok-x.x.next k.ends in
     let w : ℤ = c.in_ok-x.x.word in
     let f : SFits w32 c.in_ok-x.x.word = search rules in
     let gs : List ℤ = c.args.given.now in
@@ -317,12 +317,12 @@ statements-returns-then-count-eq0-clause-ran t c =
 
 pub statements-statement-requires : goal.statements-statement-requires
 statements-statement-requires t c =
-    let p = first-statement _ _ _ _ _ _ c.requires (omega arith) _ refl in
+    let p = first-statement c.requires (omega arith) _ refl in
     (omega arith, p.first)
 
 pub statements-returns-in_err-first-clause-ran : goal.statements-returns-in_err-first-clause-ran
 statements-returns-in_err-first-clause-ran t c =
-    let p = first-statement _ _ _ _ _ _ c.requires (omega arith) _ refl in
+    let p = first-statement c.requires (omega arith) _ refl in
     let k = c.in_err-first.ensures.ran in
     passes _ _ _ c.from_residual.ensures.1 (omega arith)
     (omega arith) k
@@ -333,7 +333,7 @@ pub statements-statements-requires : goal.statements-statements-requires
 statements-statements-requires t c =
     let s = c.statement.ensures.same in
     let k = c.in_ok-first.ensures.ran in
-    let p = first-statement _ _ _ _ _ _ c.requires (omega arith) c.in_ok-first.first.next k.ends in
+    let p = first-statement c.requires (omega arith) c.in_ok-first.first.next k.ends in
     let r = p.others (lent_in c.statement.new.self)
     (same-room s k.kept) in
     rw (s.table, s.depth) (omega (arith, p.first.part.within, p.later), r)
@@ -343,24 +343,24 @@ statements-returns-clause-ran t c =
     let s = c.statement.ensures.same in
     let k = c.in_ok-first.ensures.ran in
     let j = rw (s.table, s.depth) at c.statements.ensures.ran in
-    let p = first-statement _ _ _ _ _ _ c.requires (omega arith) c.in_ok-first.first.next k.ends in
+    let p = first-statement c.requires (omega arith) c.in_ok-first.first.next k.ends in
     follows _ _ _ k.kept k.fuel p.ends j
     (rw p.is ((by-rules (setting_in c.args.self.now)).of_then _ _ _ _
     ∙ goes_on _ _ _ k.runs))
 
 pub statement-expression-requires : goal.statement-expression-requires
 statement-expression-requires t c =
-    let p = evaluate-ready _ _ _ _ _ c.requires (sym c.in-ExpressionStatement.ensures) in
+    let p = evaluate-ready c.requires (sym c.in-ExpressionStatement.ensures) in
     (omega (arith, p.part.part.within), p.part)
 
 pub statement-expression-requires-in-Return : goal.statement-expression-requires-in-Return
 statement-expression-requires-in-Return t c =
-    let p = return-ready _ _ _ _ _ c.requires (sym c.in-Return.ensures) in
+    let p = return-ready c.requires (sym c.in-Return.ensures) in
     (omega (arith, p.part.part.within), p.part)
 
 pub statement-returns-in_err-x-in-Return-clause-ran : goal.statement-returns-in_err-x-in-Return-clause-ran
 statement-returns-in_err-x-in-Return-clause-ran t c =
-    let p = return-ready _ _ _ _ _ c.requires (sym c.in-Return.ensures) in
+    let p = return-ready c.requires (sym c.in-Return.ensures) in
     let k = c.in_err-x-in-Return.ensures.ran in
     passes _ _ _ c.from_residual.ensures.1 (omega arith)
     (omega arith) k
@@ -369,12 +369,12 @@ statement-returns-in_err-x-in-Return-clause-ran t c =
 
 pub statement-expression-requires-in-If : goal.statement-expression-requires-in-If
 statement-expression-requires-in-If t c =
-    let p = if-ready _ _ _ _ _ c.requires _ _ refl refl (sym c.in-If.ensures) in
+    let p = if-ready c.requires _ _ refl refl (sym c.in-If.ensures) in
     (omega (arith, p.test.part.within), p.test)
 
 pub statement-returns-in_err-test-in-If-clause-ran : goal.statement-returns-in_err-test-in-If-clause-ran
 statement-returns-in_err-test-in-If-clause-ran t c =
-    let p = if-ready _ _ _ _ _ c.requires _ _ refl refl (sym c.in-If.ensures) in
+    let p = if-ready c.requires _ _ refl refl (sym c.in-If.ensures) in
     let k = c.in_err-test-in-If.ensures.ran in
     passes _ _ _ c.from_residual-in_err-test-in-If.ensures.1 (omega arith) (omega arith) k
     (rw p.is ((by-rules (setting_in c.args.self.now)).of_if_else _ _ _ _ _ _
@@ -384,14 +384,14 @@ pub statement-skip-second-requires : goal.statement-skip-second-requires
 statement-skip-second-requires t c =
     let s = c.expression-in-If.ensures.same in
     let k = c.in_ok-test-in-If.ensures.ran in
-    rw s.table (if-ready _ _ _ _ _ c.requires c.in_ok-test-in-If.test.next _ k.ends refl
+    rw s.table (if-ready c.requires c.in_ok-test-in-If.test.next _ k.ends refl
     (sym c.in-If.ensures)).first_within
 
 pub statement-statement-requires : goal.statement-statement-requires
 statement-statement-requires t c =
     let s = c.expression-in-If.ensures.same in
     let k = c.in_ok-test-in-If.ensures.ran in
-    let p = if-ready _ _ _ _ _ c.requires c.in_ok-test-in-If.test.next c.skip-second.result k.ends
+    let p = if-ready c.requires c.in_ok-test-in-If.test.next c.skip-second.result k.ends
     (rw s.table at c.skip-second.ensures) (sym c.in-If.ensures) in
     let r = p.second (lent_in c.expression-in-If.new.self)
     (same-room s k.kept) in
@@ -401,7 +401,7 @@ pub statement-statement-requires-else-is_zero : goal.statement-statement-require
 statement-statement-requires-else-is_zero t c =
     let s = c.expression-in-If.ensures.same in
     let k = c.in_ok-test-in-If.ensures.ran in
-    let p = if-ready _ _ _ _ _ c.requires c.in_ok-test-in-If.test.next _ k.ends refl
+    let p = if-ready c.requires c.in_ok-test-in-If.test.next _ k.ends refl
     (sym c.in-If.ensures) in
     let r = p.first (lent_in c.expression-in-If.new.self)
     (same-room s k.kept) in
@@ -412,7 +412,7 @@ statement-returns-in_err-first-in-If-clause-ran t c =
     let s = c.expression-in-If.ensures.same in
     let k = c.in_ok-test-in-If.ensures.ran in
     let j = rw (s.table, s.depth) at c.in_err-first-in-If.ensures.ran in
-    let p = if-ready _ _ _ _ _ c.requires c.in_ok-test-in-If.test.next _ k.ends refl
+    let p = if-ready c.requires c.in_ok-test-in-If.test.next _ k.ends refl
     (sym c.in-If.ensures) in
     let f : SFits w32 c.in_ok-test-in-If.test.word = search rules in
     let y : counter.zero c.in_ok-test-in-If.test.word ≡ false =
@@ -427,18 +427,18 @@ statement-skip-next-requires t c =
     let k = c.in_ok-test-in-If.ensures.ran in
     let u = c.in_ok-first-in-If.ensures.same in
     let j = rw (s.table, s.depth) at c.in_ok-first-in-If.ensures.ran in
-    rw (u.table, s.table) (if-ready _ _ _ _ _ c.requires c.in_ok-test-in-If.test.next c.in_ok-first-in-If.first.next k.ends
+    rw (u.table, s.table) (if-ready c.requires c.in_ok-test-in-If.test.next c.in_ok-first-in-If.first.next k.ends
     j.ends (sym c.in-If.ensures)).second_within
 
 pub statement-returns-in-ExpressionStatement-clause-ran : goal.statement-returns-in-ExpressionStatement-clause-ran
 statement-returns-in-ExpressionStatement-clause-ran t c =
-    let p = evaluate-ready _ _ _ _ _ c.requires (sym c.in-ExpressionStatement.ensures) in
+    let p = evaluate-ready c.requires (sym c.in-ExpressionStatement.ensures) in
     follows _ _ _ refl (omega arith) p.ends c.expression.ensures.ran
     (rw p.is ((by-rules (setting_in c.args.self.now)).of_evaluate _ _ _ _))
 
 pub statement-returns-in_ok-x-in-Return-clause-ran : goal.statement-returns-in_ok-x-in-Return-clause-ran
 statement-returns-in_ok-x-in-Return-clause-ran t c =
-    let p = return-ready _ _ _ _ _ c.requires (sym c.in-Return.ensures) in
+    let p = return-ready c.requires (sym c.in-Return.ensures) in
     let k = c.in_ok-x-in-Return.ensures.ran in
     let f : SFits w32 c.in_ok-x-in-Return.x.word = search rules in
     rw (to_z-of_z w32 c.in_ok-x-in-Return.x.word f)
@@ -459,7 +459,7 @@ statement-returns-then-is_zero-clause-ran t c =
     let s = c.expression-in-If.ensures.same in
     let k = c.in_ok-test-in-If.ensures.ran in
     let j = rw (s.table, s.depth) at c.statement.ensures.ran in
-    let p = if-ready _ _ _ _ _ c.requires c.in_ok-test-in-If.test.next c.skip-second.result k.ends
+    let p = if-ready c.requires c.in_ok-test-in-If.test.next c.skip-second.result k.ends
     (rw s.table at c.skip-second.ensures) (sym c.in-If.ensures) in
     let f : SFits w32 c.in_ok-test-in-If.test.word = search rules in
     let y : counter.zero c.in_ok-test-in-If.test.word ≡ true =
@@ -474,7 +474,7 @@ statement-returns-in_ok-first-in-If-clause-ran t c =
     let k = c.in_ok-test-in-If.ensures.ran in
     let u = c.in_ok-first-in-If.ensures.same in
     let j = rw (s.table, s.depth) at c.in_ok-first-in-If.ensures.ran in
-    let p = if-ready _ _ _ _ _ c.requires c.in_ok-test-in-If.test.next c.in_ok-first-in-If.first.next k.ends
+    let p = if-ready c.requires c.in_ok-test-in-If.test.next c.in_ok-first-in-If.first.next k.ends
     j.ends (sym c.in-If.ensures) in
     let f : SFits w32 c.in_ok-test-in-If.test.word = search rules in
     let g : SFits w32 c.in_ok-first-in-If.first.word = search rules in
@@ -497,7 +497,7 @@ pub repeat-expression-requires : goal.repeat-expression-requires
 repeat-expression-requires t c =
     let i = c.loop-self.invariant in
     let s = i.same in
-    let p = while-ready _ _ _ _ _ c.requires.ready _ refl c.requires.kind in
+    let p = while-ready c.requires.ready _ refl c.requires.kind in
     let r = p.test (record (lent_in c.loop-self.self) { fuel = c.loop-self.self.fuel - 1 })
     (record { bindings = i.bound; names = s.names_length; words = s.words_length }) in
     rw (s.table, s.depth) (omega (arith, r.part.within), r)
@@ -507,7 +507,7 @@ repeat-returns-in_err-test-clause-ran t c =
     let i = c.loop-self.invariant in
     let s = i.same in
     let k = rw (s.table, s.depth) at c.in_err-test.ensures.ran in
-    let p = while-ready _ _ _ _ _ c.requires.ready _ refl c.requires.kind in
+    let p = while-ready c.requires.ready _ refl c.requires.kind in
     let z : c.loop-self.self.fuel ≡ suc (c.loop-self.self.fuel - 1) = omega arith in
     passes _ _ _ c.from_residual.ensures.1
     (omega (arith, i.bound)) (omega (arith, i.fuel)) k
@@ -521,14 +521,14 @@ repeat-skip-next-requires t c =
     let s = i.same in
     let k = rw (s.table, s.depth) at c.in_ok-test.ensures.ran in
     let u = c.expression.ensures.same in
-    rw (u.table, s.table) (while-ready _ _ _ _ _ c.requires.ready c.in_ok-test.test.next k.ends c.requires.kind).within
+    rw (u.table, s.table) (while-ready c.requires.ready c.in_ok-test.test.next k.ends c.requires.kind).within
 
 pub repeat-returns-then-is_zero-clause-ran : goal.repeat-returns-then-is_zero-clause-ran
 repeat-returns-then-is_zero-clause-ran t c =
     let i = c.loop-self.invariant in
     let s = i.same in
     let k = rw (s.table, s.depth) at c.in_ok-test.ensures.ran in
-    let p = while-ready _ _ _ _ _ c.requires.ready c.in_ok-test.test.next k.ends c.requires.kind in
+    let p = while-ready c.requires.ready c.in_ok-test.test.next k.ends c.requires.kind in
     let f : SFits w32 c.in_ok-test.test.word = search rules in
     let y : counter.zero c.in_ok-test.test.word ≡ true =
     sym (simp to_z-of_z at c.if-is_zero.ensures) in
@@ -546,7 +546,7 @@ repeat-statement-requires t c =
     let s = i.same in
     let k = rw (s.table, s.depth) at c.in_ok-test.ensures.ran in
     let u = c.expression.ensures.same in
-    let p = while-ready _ _ _ _ _ c.requires.ready c.in_ok-test.test.next k.ends c.requires.kind in
+    let p = while-ready c.requires.ready c.in_ok-test.test.next k.ends c.requires.kind in
     let r = p.body (lent_in c.expression.new.self)
     (record { bindings = k.kept ∙ i.bound; names = u.names_length ∙ s.names_length; words = u.words_length ∙ s.words_length }) in
     rw (u.table, u.depth, s.table, s.depth) (omega (arith, p.within, k.ends), r)
@@ -558,7 +558,7 @@ repeat-returns-in_err-_done-clause-ran t c =
     let k = rw (s.table, s.depth) at c.in_ok-test.ensures.ran in
     let u = c.expression.ensures.same in
     let j = rw (u.table, u.depth, s.table, s.depth) at c.in_err-_done.ensures.ran in
-    let p = while-ready _ _ _ _ _ c.requires.ready c.in_ok-test.test.next k.ends c.requires.kind in
+    let p = while-ready c.requires.ready c.in_ok-test.test.next k.ends c.requires.kind in
     let f : SFits w32 c.in_ok-test.test.word = search rules in
     let y : counter.zero c.in_ok-test.test.word ≡ false =
     sym (simp to_z-of_z at c.if-is_zero.ensures) in
@@ -577,7 +577,7 @@ repeat-loop-self-preserved t c =
     let k = rw (s.table, s.depth) at c.in_ok-test.ensures.ran in
     let u = c.expression.ensures.same in
     let j = rw (u.table, u.depth, s.table, s.depth) at c.in_ok-_done.ensures.ran in
-    let p = while-ready _ _ _ _ _ c.requires.ready c.in_ok-test.test.next k.ends c.requires.kind in
+    let p = while-ready c.requires.ready c.in_ok-test.test.next k.ends c.requires.kind in
     let f : SFits w32 c.in_ok-test.test.word = search rules in
     let y : counter.zero c.in_ok-test.test.word ≡ false =
     sym (simp to_z-of_z at c.if-is_zero.ensures) in
@@ -596,7 +596,7 @@ pub repeat-returns-clause-ran : goal.repeat-returns-clause-ran
 repeat-returns-clause-ran t c =
     let i = c.loop-self.invariant in
     let s = i.same in
-    let p = while-ready _ _ _ _ _ c.requires.ready _ refl c.requires.kind in
+    let p = while-ready c.requires.ready _ refl c.requires.kind in
     let r = c.requires.ready.room in
     rw c.end_at.ensures record {
       runs = i.runs ∙ rw p.is
@@ -613,14 +613,14 @@ repeat-returns-clause-ran t c =
 
 pub block-declare-requires : goal.block-declare-requires
 block-declare-requires t c =
-    let p = block-ready _ _ _ _ _ _ c.statement_count-count.result c.requires.ready c.requires.kind refl
+    let p = block-ready c.requires.ready _ c.statement_count-count.result c.requires.kind refl
     c.statement_count-count.ensures in
     record { inside = omega (arith, c.requires.ready.part.within); plain = p.plain; names = p.names; words = p.words }
 
 pub block-statements-requires : goal.block-statements-requires
 block-statements-requires t c =
     let s = c.declare.ensures.same in
-    let p = block-ready _ _ _ _ _ _ c.statement_count-count.result c.requires.ready c.requires.kind refl
+    let p = block-ready c.requires.ready _ c.statement_count-count.result c.requires.kind refl
     c.statement_count-count.ensures in
     let r = p.body (lent_in c.declare.new.self) c.declare.ensures.progress.count s.names_length s.words_length in
     rw (s.table, s.depth) (omega (arith, c.requires.ready.part.within), r)
@@ -628,7 +628,7 @@ block-statements-requires t c =
 pub block-returns-in_err-next-clause-ran : goal.block-returns-in_err-next-clause-ran
 block-returns-in_err-next-clause-ran t c =
     let s = c.declare.ensures.same in
-    let p = block-ready _ _ _ _ _ _ c.statement_count-count.result c.requires.ready c.requires.kind refl
+    let p = block-ready c.requires.ready _ c.statement_count-count.result c.requires.kind refl
     c.statement_count-count.ensures in
     let k = rw (s.table, s.depth) at c.in_err-next.ensures.ran in
     let b = ap (λ (σ : State ℤ). statements_run (setting_in c.args.self.now)
@@ -644,7 +644,7 @@ block-returns-in_err-next-clause-ran t c =
 pub block-returns-clause-ran : goal.block-returns-clause-ran
 block-returns-clause-ran t c =
     let s = c.declare.ensures.same in
-    let p = block-ready _ _ _ _ _ _ c.statement_count-count.result c.requires.ready c.requires.kind refl
+    let p = block-ready c.requires.ready _ c.statement_count-count.result c.requires.kind refl
     c.statement_count-count.ensures in
     let k = rw (s.table, s.depth) at c.in_ok-next.ensures.ran in
     let e = c.declare.ensures.progress.count in
@@ -664,13 +664,13 @@ block-returns-clause-ran t c =
 
 pub call-arguments-requires : goal.call-arguments-requires
 call-arguments-requires t c =
-    let p = call-ready _ _ _ _ _ c.requires.ready c.part_count-count.result c.requires.kind
+    let p = call-ready c.requires.ready c.part_count-count.result c.requires.kind
     c.part_count-count.ensures in
     (omega (arith, c.requires.ready.part.within), (p.ready, omega (arith, p.few)))
 
 pub call-returns-in_err-next-clause-ran : goal.call-returns-in_err-next-clause-ran
 call-returns-in_err-next-clause-ran t c =
-    let p = call-ready _ _ _ _ _ c.requires.ready c.part_count-count.result c.requires.kind
+    let p = call-ready c.requires.ready c.part_count-count.result c.requires.kind
     c.part_count-count.ensures in
     let k = c.in_err-next.ensures.ran in
     passes _ _ _ c.from_residual.ensures.1 (omega arith)
@@ -681,7 +681,7 @@ call-returns-in_err-next-clause-ran t c =
 pub call-returns-in_default-clause-ran : goal.call-returns-in_default-clause-ran
 call-returns-in_default-clause-ran t c =
     let s = c.arguments.ensures.same in
-    let p = call-ready _ _ _ _ _ c.requires.ready c.part_count-count.result c.requires.kind
+    let p = call-ready c.requires.ready c.part_count-count.result c.requires.kind
     c.part_count-count.ensures in
     let k = c.in_ok-next.ensures.ran in
     gives _ _ _ _ _ _ _ refl
@@ -694,7 +694,7 @@ call-returns-in_default-clause-ran t c =
 pub call-returns-then-opened-self-clause-ran : goal.call-returns-then-opened-self-clause-ran
 call-returns-then-opened-self-clause-ran t c =
     let s = c.arguments.ensures.same in
-    let p = call-ready _ _ _ _ _ c.requires.ready c.part_count-count.result c.requires.kind
+    let p = call-ready c.requires.ready c.part_count-count.result c.requires.kind
     c.part_count-count.ensures in
     let k = c.in_ok-next.ensures.ran in
     let l = rw s.table at c.in-Some.ensures in
@@ -715,7 +715,7 @@ call-returns-then-opened-self-clause-ran t c =
 pub call-returns-then-self-eq0-clause-ran : goal.call-returns-then-self-eq0-clause-ran
 call-returns-then-self-eq0-clause-ran t c =
     let s = c.arguments.ensures.same in
-    let p = call-ready _ _ _ _ _ c.requires.ready c.part_count-count.result c.requires.kind
+    let p = call-ready c.requires.ready c.part_count-count.result c.requires.kind
     c.part_count-count.ensures in
     let k = c.in_ok-next.ensures.ran in
     let l = rw s.table at c.in-Some.ensures in
@@ -736,20 +736,20 @@ call-returns-then-self-eq0-clause-ran t c =
 
 pub call-slice_bounds-given-end : goal.call-slice_bounds-given-end
 call-slice_bounds-given-end t c =
-    let p = call-ready _ _ _ _ _ c.requires.ready c.part_count-count.result c.requires.kind
+    let p = call-ready c.requires.ready c.part_count-count.result c.requires.kind
     c.part_count-count.ensures in
     omega (arith, p.few)
 
 pub call-slice_bounds-bind-end : goal.call-slice_bounds-bind-end
 call-slice_bounds-bind-end t c =
-    let p = call-ready _ _ _ _ _ c.requires.ready c.part_count-count.result c.requires.kind
+    let p = call-ready c.requires.ready c.part_count-count.result c.requires.kind
     c.part_count-count.ensures in
     sym (length-take-le c.part_count-count.result c.arguments.new.given (omega (arith, p.few)))
 
 pub call-bind-requires : goal.call-bind-requires
 call-bind-requires t c =
     let s = c.arguments.ensures.same in
-    let p = call-ready _ _ _ _ _ c.requires.ready c.part_count-count.result c.requires.kind
+    let p = call-ready c.requires.ready c.part_count-count.result c.requires.kind
     c.part_count-count.ensures in
     let k = c.in_ok-next.ensures.ran in
     let l = rw s.table at c.in-Some.ensures in
@@ -762,7 +762,7 @@ call-bind-requires t c =
 pub call-overflow_add-f-3 : goal.call-overflow_add-f-3
 call-overflow_add-f-3 t c =
     let s = c.arguments.ensures.same in
-    let p = call-ready _ _ _ _ _ c.requires.ready c.part_count-count.result c.requires.kind
+    let p = call-ready c.requires.ready c.part_count-count.result c.requires.kind
     c.part_count-count.ensures in
     let k = c.in_ok-next.ensures.ran in
     let l = rw s.table at c.in-Some.ensures in
@@ -775,7 +775,7 @@ call-overflow_add-f-3 t c =
 pub call-statement-requires : goal.call-statement-requires
 call-statement-requires t c =
     let s = c.arguments.ensures.same in
-    let p = call-ready _ _ _ _ _ c.requires.ready c.part_count-count.result c.requires.kind
+    let p = call-ready c.requires.ready c.part_count-count.result c.requires.kind
     c.part_count-count.ensures in
     let k = c.in_ok-next.ensures.ran in
     let l = rw s.table at c.in-Some.ensures in
@@ -793,7 +793,7 @@ call-statement-requires t c =
 pub call-returns-clause-ran : goal.call-returns-clause-ran
 call-returns-clause-ran t c =
     let s = c.arguments.ensures.same in
-    let p = call-ready _ _ _ _ _ c.requires.ready c.part_count-count.result c.requires.kind
+    let p = call-ready c.requires.ready c.part_count-count.result c.requires.kind
     c.part_count-count.ensures in
     let k = c.in_ok-next.ensures.ran in
     let l = rw s.table at c.in-Some.ensures in
@@ -835,7 +835,7 @@ call-returns-clause-ran t c =
 pub call-returns-in-Err-Ended-clause-ran : goal.call-returns-in-Err-Ended-clause-ran
 call-returns-in-Err-Ended-clause-ran t c =
     let s = c.arguments.ensures.same in
-    let p = call-ready _ _ _ _ _ c.requires.ready c.part_count-count.result c.requires.kind
+    let p = call-ready c.requires.ready c.part_count-count.result c.requires.kind
     c.part_count-count.ensures in
     let k = c.in_ok-next.ensures.ran in
     let l = rw s.table at c.in-Some.ensures in
