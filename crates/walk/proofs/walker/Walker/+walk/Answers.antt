@@ -33,7 +33,7 @@ pub expression-returns-in_err-x-in-TwoPart-clause-ran : goal.expression-returns-
 expression-returns-in_err-x-in-TwoPart-clause-ran t c =
     let p = two_part_ready c.requires _ refl _ (sym c.in-TwoPart.ensures) in
     let k = c.in_err-x-in-TwoPart.ensures.ran in
-    passes _ _ _ c.from_residual.ensures.1 (omega arith)
+    passes c.from_residual.ensures.1 (omega arith)
     (omega arith) k
     (rw p.is ((by-rules (setting_in c.args.self.now)).of_binary _ _ _ _ _ _
     ∙ stops _ _ _ k.runs))
@@ -55,7 +55,7 @@ expression-returns-in_err-y-in-TwoPart-clause-ran t c =
     let j = rw (s.table, s.depth) at c.in_err-y-in-TwoPart.ensures.ran in
     let p = two_part_ready c.requires c.in_ok-x-in-TwoPart.x.next k.ends _
     (sym c.in-TwoPart.ensures) in
-    passes _ _ _ c.from_residual-in_err-y-in-TwoPart.ensures.1
+    passes c.from_residual-in_err-y-in-TwoPart.ensures.1
     (omega (arith, k.kept)) k.fuel j
     (rw p.is ((by-rules (setting_in c.args.self.now)).of_binary _ _ _ _ _ _
     ∙ (goes_on _ _ _ k.runs ∙ stops _ _ _ j.runs)))
@@ -69,7 +69,7 @@ pub expression-returns-in_err-x-in-Assignment-clause-ran : goal.expression-retur
 expression-returns-in_err-x-in-Assignment-clause-ran t c =
     let p = assign-ready c.requires (sym c.in-Assignment.ensures) in
     let k = c.in_err-x-in-Assignment.ensures.ran in
-    passes _ _ _ c.from_residual-in_err-x-in-Assignment.ensures.1
+    passes c.from_residual-in_err-x-in-Assignment.ensures.1
     (omega arith) (omega arith) k
     (rw p.is ((by-rules (setting_in c.args.self.now)).of_assign _ _ _ _ _
     ∙ stops _ _ _ k.runs))
@@ -83,7 +83,7 @@ pub expression-returns-in_err-x-in-BayRead-clause-ran : goal.expression-returns-
 expression-returns-in_err-x-in-BayRead-clause-ran t c =
     let p = bay-read-ready c.requires (sym c.in-BayRead.ensures) in
     let k = c.in_err-x-in-BayRead.ensures.ran in
-    passes _ _ _ c.from_residual-in_err-x-in-BayRead.ensures.1
+    passes c.from_residual-in_err-x-in-BayRead.ensures.1
     (omega arith) (omega arith) k
     (rw p.is ((by-rules (setting_in c.args.self.now)).of_bay_read _ _ _ _
     ∙ stops _ _ _ k.runs))
@@ -94,7 +94,7 @@ expression-returns-in_err-word-in-BayRead-clause-ran t c =
     let k = c.in_ok-x-in-BayRead.ensures.ran in
     let f : SFits w32 c.in_ok-x-in-BayRead.x.word = search rules in
     let b = simp to_z-of_z at c.in_err-word-in-BayRead.ensures in
-    refuses _ _ _ _ c.from_residual-in_err-word-in-BayRead.ensures.1 k.fuel (omega (arith, k.kept))
+    refuses _ c.from_residual-in_err-word-in-BayRead.ensures.1 k.fuel (omega (arith, k.kept))
     (omega (arith, k.kept, c.requires.room.names)) (omega (arith, k.kept, c.requires.room.words))
     (rw p.is ((by-rules (setting_in c.args.self.now)).of_bay_read _ _ _ _
     ∙ (goes_on _ _ _ k.runs ∙ reads c.args.at _
@@ -109,7 +109,7 @@ pub expression-returns-in_err-x-in-BayWrite-clause-ran : goal.expression-returns
 expression-returns-in_err-x-in-BayWrite-clause-ran t c =
     let p = bay_write_ready c.requires _ refl (sym c.in-BayWrite.ensures) in
     let k = c.in_err-x-in-BayWrite.ensures.ran in
-    passes _ _ _ c.from_residual-in_err-x-in-BayWrite.ensures.1
+    passes c.from_residual-in_err-x-in-BayWrite.ensures.1
     (omega arith) (omega arith) k
     (rw p.is ((by-rules (setting_in c.args.self.now)).of_bay_write _ _ _ _ _
     ∙ stops _ _ _ k.runs))
@@ -131,7 +131,7 @@ expression-returns-in_err-y-in-BayWrite-clause-ran t c =
     let j = rw (s.table, s.depth) at c.in_err-y-in-BayWrite.ensures.ran in
     let p = bay_write_ready c.requires c.in_ok-x-in-BayWrite.x.next k.ends
     (sym c.in-BayWrite.ensures) in
-    passes _ _ _ c.from_residual-in_err-y-in-BayWrite.ensures.1
+    passes c.from_residual-in_err-y-in-BayWrite.ensures.1
     (omega (arith, k.kept)) k.fuel j
     (rw p.is ((by-rules (setting_in c.args.self.now)).of_bay_write _ _ _ _ _
     ∙ (goes_on _ _ _ k.runs ∙ stops _ _ _ j.runs)))
@@ -147,7 +147,7 @@ expression-returns-in_err-word-in-BayWrite-clause-ran t c =
     let g : SFits w32 c.in_ok-y-in-BayWrite.y.word = search rules in
     let b = simp to_z-of_z at c.in_err-word-in-BayWrite.ensures.answer in
     let d = simp to_z-of_z at c.in_err-word-in-BayWrite.ensures.bays in
-    refuses _ _ _ _ c.from_residual-in_err-word-in-BayWrite.ensures.1 (omega (arith, k.fuel, j.fuel))
+    refuses _ c.from_residual-in_err-word-in-BayWrite.ensures.1 (omega (arith, k.fuel, j.fuel))
     (omega (arith, k.kept, j.kept))
     (omega (arith, k.kept, j.kept, c.requires.room.names)) (omega (arith, k.kept, j.kept, c.requires.room.words))
     (rw p.is ((by-rules (setting_in c.args.self.now)).of_bay_write _ _ _ _ _
@@ -159,7 +159,7 @@ expression-returns-in-Number-clause-ran t c =
     let p = no-parts _ _ c.requires.part is.Number (sym c.in-Number.ensures) refl in
     let z : ℤ = (get_or c.args.self.now.table.now c.args.at no_record).v in
     let f : SFits w32 z = search rules in
-    gives _ _ _ _ z _ _ (to_z-of_z w32 z f) (rw p.0
+    gives z (to_z-of_z w32 z f) (rw p.0
     ((by-rules (setting_in c.args.self.now)).of_constant _ _ _ _)) (omega arith) refl
     p.1
 
@@ -167,7 +167,7 @@ pub expression-returns-in-Variable-clause-ran : goal.expression-returns-in-Varia
 expression-returns-in-Variable-clause-ran t c =
     let p = no-parts _ _ c.requires.part is.Variable (sym c.in-Variable.ensures) refl in
     let f : SFits w32 c.word_of-word.result = search rules in
-    gives _ _ _ _ _ _ _ (to_z-of_z w32 c.word_of-word.result f ∙ c.word_of-word.ensures)
+    gives _ (to_z-of_z w32 c.word_of-word.result f ∙ c.word_of-word.ensures)
     (rw p.0 ((by-rules (setting_in c.args.self.now)).of_variable _ _ _ _))
     (omega arith) refl p.1
 
@@ -181,7 +181,7 @@ expression-returns-in_ok-y-in-TwoPart-clause-ran t c =
     let f : SFits w32 c.in_ok-x-in-TwoPart.x.word = search rules in
     let g : SFits w32 c.in_ok-y-in-TwoPart.y.word = search rules in
     let h : SFits w32 c.apply-word.result = search rules in
-    gives _ _ _ _ _ _ _ (to_z-of_z w32 c.apply-word.result h ∙ simp to_z-of_z at c.apply-word.ensures)
+    gives _ (to_z-of_z w32 c.apply-word.result h ∙ simp to_z-of_z at c.apply-word.ensures)
     (rw p.is ((by-rules (setting_in c.args.self.now)).of_binary _ _ _ _ _ _
     ∙ (goes_on _ _ _ k.runs ∙ goes_on _ _ _ j.runs)))
     (omega (arith, k.fuel, j.fuel)) (j.kept ∙ k.kept) (j.ends ∙ p.ends)
@@ -207,7 +207,7 @@ expression-returns-in_ok-word-in-BayRead-clause-ran t c =
     let f : SFits w32 c.in_ok-x-in-BayRead.x.word = search rules in
     let g : SFits w32 c.in_ok-word-in-BayRead.word = search rules in
     let b = simp to_z-of_z at c.in_ok-word-in-BayRead.ensures in
-    gives _ _ _ _ _ _ _ (to_z-of_z w32 c.in_ok-word-in-BayRead.word g)
+    gives _ (to_z-of_z w32 c.in_ok-word-in-BayRead.word g)
     (rw p.is ((by-rules (setting_in c.args.self.now)).of_bay_read _ _ _ _
     ∙ (goes_on _ _ _ k.runs ∙ reads c.args.at _
     (lent_in c.expression-in-BayRead.new.self) _ b)))
@@ -225,7 +225,7 @@ expression-returns-in_ok-word-in-BayWrite-clause-ran t c =
     let h : SFits w32 c.in_ok-word-in-BayWrite.word = search rules in
     let b = simp to_z-of_z at c.in_ok-word-in-BayWrite.ensures.answer in
     let d = simp to_z-of_z at c.in_ok-word-in-BayWrite.ensures.bays in
-    gives _ _ _ _ _ _ _ (to_z-of_z w32 c.in_ok-word-in-BayWrite.word h)
+    gives _ (to_z-of_z w32 c.in_ok-word-in-BayWrite.word h)
     (rw p.is ((by-rules (setting_in c.args.self.now)).of_bay_write _ _ _ _ _
     ∙ (goes_on _ _ _ k.runs ∙ (goes_on _ _ _ j.runs
     ∙ writes c.args.at _ (lent_in c.expression-in-BayWrite-2.new.self) _ _ b d))))
@@ -263,7 +263,7 @@ pub arguments-returns-in_err-x-clause-ran : goal.arguments-returns-in_err-x-clau
 arguments-returns-in_err-x-clause-ran t c =
     let p = first-argument c.requires.ready (omega arith) _ refl in
     let k = c.in_err-x.ensures.ran in
-    passes _ _ _ c.from_residual.ensures.1 (omega arith)
+    passes c.from_residual.ensures.1 (omega arith)
     (omega arith) k
     (rw p.is ((by-rules (setting_in c.args.self.now)).of_argument _ _ _ _ _
     ∙ stops _ _ _ k.runs))
@@ -293,7 +293,7 @@ arguments-returns-clause-ran t c =
     (rev-set gs c.args.from c.in_ok-x.x.word (omega (arith, c.requires.given))) in
     let n : c.args.from + 1 + (c.args.count - 1) ≡ c.args.from + c.args.count = omega arith in
     let j' = rw (n, s.table, s.depth) at j in
-    follows _ _ _ k.kept k.fuel p.ends j'
+    follows _ k.kept k.fuel p.ends j'
     (rw p.is ((by-rules (setting_in c.args.self.now)).of_argument _ _ _ _ _
     ∙ (goes_on _ _ _ k.runs
     ∙ ap (λ (us : List ℤ). arguments_run (setting_in c.args.self.now)
@@ -324,7 +324,7 @@ pub statements-returns-in_err-first-clause-ran : goal.statements-returns-in_err-
 statements-returns-in_err-first-clause-ran t c =
     let p = first-statement c.requires (omega arith) _ refl in
     let k = c.in_err-first.ensures.ran in
-    passes _ _ _ c.from_residual.ensures.1 (omega arith)
+    passes c.from_residual.ensures.1 (omega arith)
     (omega arith) k
     (rw p.is ((by-rules (setting_in c.args.self.now)).of_then _ _ _ _
     ∙ stops _ _ _ k.runs))
@@ -344,7 +344,7 @@ statements-returns-clause-ran t c =
     let k = c.in_ok-first.ensures.ran in
     let j = rw (s.table, s.depth) at c.statements.ensures.ran in
     let p = first-statement c.requires (omega arith) c.in_ok-first.first.next k.ends in
-    follows _ _ _ k.kept k.fuel p.ends j
+    follows _ k.kept k.fuel p.ends j
     (rw p.is ((by-rules (setting_in c.args.self.now)).of_then _ _ _ _
     ∙ goes_on _ _ _ k.runs))
 
@@ -362,7 +362,7 @@ pub statement-returns-in_err-x-in-Return-clause-ran : goal.statement-returns-in_
 statement-returns-in_err-x-in-Return-clause-ran t c =
     let p = return-ready c.requires (sym c.in-Return.ensures) in
     let k = c.in_err-x-in-Return.ensures.ran in
-    passes _ _ _ c.from_residual.ensures.1 (omega arith)
+    passes c.from_residual.ensures.1 (omega arith)
     (omega arith) k
     (rw p.is ((by-rules (setting_in c.args.self.now)).of_give_back _ _ _ _
     ∙ stops _ _ _ k.runs))
@@ -376,7 +376,7 @@ pub statement-returns-in_err-test-in-If-clause-ran : goal.statement-returns-in_e
 statement-returns-in_err-test-in-If-clause-ran t c =
     let p = if-ready c.requires _ _ refl refl (sym c.in-If.ensures) in
     let k = c.in_err-test-in-If.ensures.ran in
-    passes _ _ _ c.from_residual-in_err-test-in-If.ensures.1 (omega arith) (omega arith) k
+    passes c.from_residual-in_err-test-in-If.ensures.1 (omega arith) (omega arith) k
     (rw p.is ((by-rules (setting_in c.args.self.now)).of_if_else _ _ _ _ _ _
     ∙ stops _ _ _ k.runs))
 
@@ -417,7 +417,7 @@ statement-returns-in_err-first-in-If-clause-ran t c =
     let f : SFits w32 c.in_ok-test-in-If.test.word = search rules in
     let y : counter.zero c.in_ok-test-in-If.test.word ≡ false =
     sym (simp to_z-of_z at c.if-is_zero.ensures) in
-    passes _ _ _ c.from_residual-in_err-first-in-If.ensures.1 (omega (arith, k.kept)) k.fuel j
+    passes c.from_residual-in_err-first-in-If.ensures.1 (omega (arith, k.kept)) k.fuel j
     (rw p.is ((by-rules (setting_in c.args.self.now)).of_if_else _ _ _ _ _ _
     ∙ (goes_on _ _ _ k.runs ∙ rw y j.runs)))
 
@@ -433,7 +433,7 @@ statement-skip-next-requires t c =
 pub statement-returns-in-ExpressionStatement-clause-ran : goal.statement-returns-in-ExpressionStatement-clause-ran
 statement-returns-in-ExpressionStatement-clause-ran t c =
     let p = evaluate-ready c.requires (sym c.in-ExpressionStatement.ensures) in
-    follows _ _ _ refl (omega arith) p.ends c.expression.ensures.ran
+    follows _ refl (omega arith) p.ends c.expression.ensures.ran
     (rw p.is ((by-rules (setting_in c.args.self.now)).of_evaluate _ _ _ _))
 
 pub statement-returns-in_ok-x-in-Return-clause-ran : goal.statement-returns-in_ok-x-in-Return-clause-ran
@@ -464,7 +464,7 @@ statement-returns-then-is_zero-clause-ran t c =
     let f : SFits w32 c.in_ok-test-in-If.test.word = search rules in
     let y : counter.zero c.in_ok-test-in-If.test.word ≡ true =
     sym (simp to_z-of_z at c.if-is_zero.ensures) in
-    follows _ _ _ k.kept k.fuel p.ends j
+    follows _ k.kept k.fuel p.ends j
     (rw p.is ((by-rules (setting_in c.args.self.now)).of_if_else _ _ _ _ _ _
     ∙ (goes_on _ _ _ k.runs ∙ rw y refl)))
 
@@ -480,7 +480,7 @@ statement-returns-in_ok-first-in-If-clause-ran t c =
     let g : SFits w32 c.in_ok-first-in-If.first.word = search rules in
     let y : counter.zero c.in_ok-test-in-If.test.word ≡ false =
     sym (simp to_z-of_z at c.if-is_zero.ensures) in
-    gives _ _ _ _ _ _ _ (to_z-of_z w32 c.in_ok-first-in-If.first.word g)
+    gives _ (to_z-of_z w32 c.in_ok-first-in-If.first.word g)
     (rw p.is ((by-rules (setting_in c.args.self.now)).of_if_else _ _ _ _ _ _
     ∙ (goes_on _ _ _ k.runs ∙ rw y j.runs)))
     (omega (arith, k.fuel, j.fuel)) (j.kept ∙ k.kept) (rw (u.table, s.table) at c.skip-next.ensures ∙ p.ends)
@@ -509,7 +509,7 @@ repeat-returns-in_err-test-clause-ran t c =
     let k = rw (s.table, s.depth) at c.in_err-test.ensures.ran in
     let p = while-ready c.requires.ready _ refl c.requires.kind in
     let z : c.loop-self.self.fuel ≡ suc (c.loop-self.self.fuel - 1) = omega arith in
-    passes _ _ _ c.from_residual.ensures.1
+    passes c.from_residual.ensures.1
     (omega (arith, i.bound)) (omega (arith, i.fuel)) k
     (i.runs ∙ rw p.is (test-stops c.args.self.now.table.now c.args.self.now.depth
     c.args.opened c.args.at _ _
@@ -533,7 +533,7 @@ repeat-returns-then-is_zero-clause-ran t c =
     let y : counter.zero c.in_ok-test.test.word ≡ true =
     sym (simp to_z-of_z at c.if-is_zero.ensures) in
     let z : c.loop-self.self.fuel ≡ suc (c.loop-self.self.fuel - 1) = omega arith in
-    gives _ _ _ _ _ _ _ refl
+    gives _ refl
     (i.runs ∙ rw p.is (test_zero c.args.self.now.table.now c.args.self.now.depth
     c.args.opened c.args.at _ _
     (state (lent_in c.loop-self.self)) _ (c.loop-self.self.fuel - 1) z _ k.runs y))
@@ -563,7 +563,7 @@ repeat-returns-in_err-_done-clause-ran t c =
     let y : counter.zero c.in_ok-test.test.word ≡ false =
     sym (simp to_z-of_z at c.if-is_zero.ensures) in
     let z : c.loop-self.self.fuel ≡ suc (c.loop-self.self.fuel - 1) = omega arith in
-    passes _ _ _ c.from_residual-in_err-_done.ensures.1 (omega (arith, k.kept, i.bound))
+    passes c.from_residual-in_err-_done.ensures.1 (omega (arith, k.kept, i.bound))
     (omega (arith, k.fuel, i.fuel)) j
     (i.runs ∙ rw p.is (body-stops c.args.self.now.table.now c.args.self.now.depth
     c.args.opened c.args.at _ _
@@ -635,7 +635,7 @@ block-returns-in_err-next-clause-ran t c =
     (statements_at c.args.self.now.table.now (c.args.at + 1 + (get_or c.args.self.now.table.now c.args.at no_record).a)
     c.statement_count-count.result) c.args.opened σ)
     (sym c.declare.ensures.bound) in
-    passes _ _ _ c.from_residual.ensures.1
+    passes c.from_residual.ensures.1
     (omega (arith, c.declare.ensures.progress.count)) (omega (arith, c.declare.ensures.progress.fuel)) k
     (rw p.is ((by-rules (setting_in c.args.self.now)).of_block _ _ _ _ _
     ∙ (ap (leave_block (pos 0) (state (lent_in c.args.self.now))) (b ∙ k.runs)
@@ -657,7 +657,7 @@ block-returns-clause-ran t c =
     (omega (arith, k.kept)) (omega (arith, k.kept, p.names, s.names_length, c.statements.ensures.same.names_length))
     (omega (arith, k.kept, p.words, s.words_length, c.statements.ensures.same.words_length))
     (omega (arith, p.names)) (omega (arith, p.words)) in
-    gives _ _ _ _ _ _ _ refl
+    gives _ refl
     (rw p.is ((by-rules (setting_in c.args.self.now)).of_block _ _ _ _ _
     ∙ (ap (leave_block (pos 0) (state (lent_in c.args.self.now))) (b ∙ k.runs) ∙ ap (value (pos 0)) x)))
     (omega (arith, k.fuel, c.declare.ensures.progress.fuel)) refl (k.ends ∙ p.ends)
@@ -673,7 +673,7 @@ call-returns-in_err-next-clause-ran t c =
     let p = call-ready c.requires.ready c.part_count-count.result c.requires.kind
     c.part_count-count.ensures in
     let k = c.in_err-next.ensures.ran in
-    passes _ _ _ c.from_residual.ensures.1 (omega arith)
+    passes c.from_residual.ensures.1 (omega arith)
     (omega arith) k
     (rw p.is ((by-rules (setting_in c.args.self.now)).of_call _ _ _ _ _
     ∙ stops _ _ _ k.runs))
@@ -684,7 +684,7 @@ call-returns-in_default-clause-ran t c =
     let p = call-ready c.requires.ready c.part_count-count.result c.requires.kind
     c.part_count-count.ensures in
     let k = c.in_ok-next.ensures.ran in
-    gives _ _ _ _ _ _ _ refl
+    gives _ refl
     (rw p.is ((by-rules (setting_in c.args.self.now)).of_call _ _ _ _ _
     ∙ (goes_on _ _ _ k.runs ∙ no-function (setting_in c.args.self.now)
     (λ calls s σ. statement_run (setting_in c.args.self.now) s calls σ) _ _
@@ -819,7 +819,7 @@ call-returns-clause-ran t c =
           (omega (arith, j.kept, e)) (omega (arith, j.kept, e, n.names, v.names_length, u.names_length))
           (omega (arith, j.kept, e, n.words, v.words_length, u.words_length))
           (omega (arith, n.names)) (omega (arith, n.words)) in
-          gives _ _ _ _ (pos 0) _ _ w.word-is
+          gives (pos 0) w.word-is
           (rw p.is (y ∙ (ap (leave_call (pos 0) υ) j.runs ∙ ap (value (pos 0)) d)))
           (omega (arith, j.fuel, k.fuel, c.bind.ensures.progress.fuel)) k.kept (k.ends ∙ p.ends)
       | call-in-Err-Returned w ↦
@@ -827,7 +827,7 @@ call-returns-clause-ran t c =
           let d = dropped lent₁ (lent_in c.statement.new.self) c.arguments.new.self.bound refl
           (omega (arith, j.kept.0, e)) j.kept.1 j.kept.2 (omega (arith, n.names)) (omega (arith, n.words)) in
           let f : SFits w32 w.in-Err-Returned.word = search rules in
-          gives _ _ _ _ w.in-Err-Returned.word _ _ (w.word-is ∙ to_z-of_z w32 w.in-Err-Returned.word f)
+          gives w.in-Err-Returned.word (w.word-is ∙ to_z-of_z w32 w.in-Err-Returned.word f)
           (rw p.is (y ∙ (ap (leave_call (pos 0) υ) j.runs ∙ ap (value w.in-Err-Returned.word) d)))
           (omega (arith, j.fuel, k.fuel, c.bind.ensures.progress.fuel)) k.kept (k.ends ∙ p.ends)
     ]
