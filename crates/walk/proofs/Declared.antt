@@ -1,5 +1,5 @@
 -- The declarations of a table, one after another, and the search for a function among them.
-use Rattle.std.proofs.Common.{◌≡◌, ℕ, ◌+◌, ◌-◌, ◌<◌, List, length, get_or, replicate, None, refl, ap, ◌∙◌, arith}
+use Rattle.std.proofs.Common.{◌≡◌, ℕ, ◌+◌, ◌-◌, ◌<◌, List, length, get_or, replicate, refl, ap, ◌∙◌, arith}
 use Rattle.script.specs.declared.record.Record.{Record}
 use Rattle.script.specs.declared.rows.Sort.TheVariants.{Declaration as DeclarationSort}
 use Rattle.script.specs.declared.rows.NodeKind.TheVariants as is
@@ -74,8 +74,3 @@ module _ {table : List Record} {name at left : ℕ} (s : Sought table name at le
           is = s.is ∙ (ap (λ (ds : List Declaration). function_named name (functions_of ds)) p.is
               ∙ rw (eqb-true name (get_or table at no_record).a e, p.function.is) refl);
         }
-
-pub none-left : {table : List Record} {name at left : ℕ} → Sought table name at left → left ≡ 0 →
-    function_named name (functions_in table) ≡ None
-none-left {table} {name} {at} s z =
-    s.is ∙ ap (λ (n : ℕ). function_named name (functions_of (declarations_at table at n))) z

@@ -80,10 +80,3 @@ module _ {w w' : Walker} {at left : ℕ} (s : Binding w w' at left) (h : 0 < lef
               ∙ (variable-pushed at r.a r.v others (state (lent_in w'))
               ∙ ap (λ (ds : List Declaration). bind_variables counter (variables_of ds) (state (lent_in w'))) (sym p.is))));
         }
-
-pub all-declared : {w w' : Walker} {at left : ℕ} → Binding w w' at left → left ≡ 0 →
-    (at ≡ main_index w.table.now) × Binds w w' 0 (length (globals_of (program_of w.table.now))) (λ σ. σ)
-    (bind_variables counter (globals_of (program_of w.table.now)))
-all-declared {w} {w'} {at} s z =
-    let e = ap (λ (n : ℕ). sizes (pieces w.table.now at n)) z in
-    (omega (arith, s.ends, e), rw z at s.binds)

@@ -44,10 +44,10 @@ same-room s b = record { bindings = b; names = s.names_length; words = s.words_l
 pub same : (l : Lent) → SameRoom l l
 same l = record { bindings = refl; names = refl; words = refl }
 
-module _ (table : List Record) (depth opened at : ℕ) (l : Lent) where
-  abbrev Scoped : List ℕ → Expression → Type 0
-  Scoped own e = ScopedExpression (globals_in table) (functions_in table) e own
+abbrev Scoped : List Record → List ℕ → Expression → Type 0
+Scoped table own e = ScopedExpression (globals_in table) (functions_in table) e own
 
+module _ {table : List Record} {depth opened at : ℕ} {l : Lent} where
   module _ (r : ReadyExpression table depth opened at l) where
     -- An expression of one part.
     pub record OneReady (made : Expression → Expression) : Type 0 where
@@ -58,7 +58,7 @@ module _ (table : List Record) (depth opened at : ℕ) (l : Lent) where
     pub assign-ready : node_at table at ≡ is.Assignment → OneReady (assign at (get_or table at no_record).a)
     assign-ready b =
         let v = one-part table at r.part is.Assignment b refl in
-        let s = subst (Scoped r.own) v.is r.scoped in
+        let s = subst (Scoped table r.own) v.is r.scoped in
         record {
           part = record {
             part = v.part;
@@ -78,7 +78,7 @@ module _ (table : List Record) (depth opened at : ℕ) (l : Lent) where
           part = record {
             part = v.part;
             own = r.own;
-            scoped = subst (Scoped r.own) v.is r.scoped;
+            scoped = subst (Scoped table r.own) v.is r.scoped;
             room = less-room r.room (omega (arith, ap need_expression v.is)) (same l);
           };
           is = v.is;
@@ -96,7 +96,7 @@ module _ (table : List Record) (depth opened at : ℕ) (l : Lent) where
       pub two_part_ready : (o : Operator) → node_at table at ≡ is.TwoPart o → TwoReady m (binary at o)
       two_part_ready o b =
           let v = two-parts table at r.part (is.TwoPart o) m b refl em in
-          let s = subst (Scoped r.own) v.is r.scoped in
+          let s = subst (Scoped table r.own) v.is r.scoped in
           let n = ap need_expression v.is in
           record {
             first = record {
@@ -120,7 +120,7 @@ module _ (table : List Record) (depth opened at : ℕ) (l : Lent) where
       pub bay_write_ready : node_at table at ≡ is.BayWrite → TwoReady m (bay_write at)
       bay_write_ready b =
           let v = two-parts table at r.part is.BayWrite m b refl em in
-          let s = subst (Scoped r.own) v.is r.scoped in
+          let s = subst (Scoped table r.own) v.is r.scoped in
           let n = ap need_expression v.is in
           record {
             first = record {
@@ -152,7 +152,7 @@ module _ (table : List Record) (depth opened at : ℕ) (l : Lent) where
     pub call-ready : (n : ℕ) → node_at table at ≡ is.Call → n ≡ first_parts (get_or table at no_record) → CallReady n
     call-ready n b en =
         let v = called table at r.part n b en in
-        let s = subst (Scoped r.own) v.is r.scoped in
+        let s = subst (Scoped table r.own) v.is r.scoped in
         record {
           ready = record {
             inside = omega (arith, r.part.within);
@@ -284,7 +284,7 @@ needs-more : (es : Arguments) (i : ℕ) → need_arguments es i ≤ need_argumen
 needs-more no_argument i = omega arith
 needs-more (argument e es) i = omega (arith, needs-more es (suc i))
 
-module _ (table : List Record) (depth opened at many : ℕ) (l : Lent) where
+module _ {table : List Record} {depth opened at many : ℕ} {l : Lent} (r : ReadyArguments table depth opened at many l) where
   -- Arguments: the first, and those from m on.
   pub record FirstArgument (m : ℕ) : Type 0 where
     pub first : ReadyExpression table depth opened at l
@@ -293,9 +293,9 @@ module _ (table : List Record) (depth opened at many : ℕ) (l : Lent) where
     pub ends : m + sizes (pieces table m (many - 1)) ≡ at + sizes (pieces table at many)
     pub later : at < m
 
-  pub first-argument : ReadyArguments table depth opened at many l → 0 < many → (m : ℕ) → m ≡ at + size (tree_at table at) →
+  pub first-argument : 0 < many → (m : ℕ) → m ≡ at + size (tree_at table at) →
       FirstArgument m
-  first-argument r h m em =
+  first-argument h m em =
       let f = firsts table at many m ExpressionSort h r.sound em in
       let is = ap arguments_of f.parts in
       let s = subst (λ (es : Arguments). ScopedArguments (globals_in table) (functions_in table) es r.own) is
@@ -321,7 +321,8 @@ module _ (table : List Record) (depth opened at many : ℕ) (l : Lent) where
         later = f.later;
       }
 
-  -- Statements.
+module _ {table : List Record} {depth opened at many : ℕ} {l : Lent} (r : ReadyStatements table depth opened at many l) where
+  -- Statements: the first, and those from m on.
   pub record FirstStatement (m : ℕ) : Type 0 where
     pub first : ReadyStatement table depth opened at l
     pub others : (l' : Lent) → SameRoom l l' → ReadyStatements table depth opened m (many - 1) l'
@@ -329,9 +330,9 @@ module _ (table : List Record) (depth opened at many : ℕ) (l : Lent) where
     pub ends : m + sizes (pieces table m (many - 1)) ≡ at + sizes (pieces table at many)
     pub later : at < m
 
-  pub first-statement : ReadyStatements table depth opened at many l → 0 < many → (m : ℕ) → m ≡ at + size (tree_at table at) →
+  pub first-statement : 0 < many → (m : ℕ) → m ≡ at + size (tree_at table at) →
       FirstStatement m
-  first-statement r h m em =
+  first-statement h m em =
       let f = firsts table at many m StatementSort h r.sound em in
       let is = ap statements_of f.parts in
       let s = subst (λ (ss : Statements). ScopedStatements (globals_in table) (functions_in table) ss r.own) is
@@ -362,7 +363,7 @@ on-locals : (ss : Statements) (k : ℕ) → k + need_statements ss 0 ≤ max k (
 on-locals no_statement k = omega arith
 on-locals (then s ss) k = omega (arith, on-locals ss k)
 
-module _ (table : List Record) (depth opened at : ℕ) (l : Lent) where
+module _ {table : List Record} {depth opened at : ℕ} {l : Lent} (r : ReadyStatement table depth opened at l) where
   -- k locals from the next record on, and n statements after them.
   pub record BlockReady (k n : ℕ) : Type 0 where
     pub plain : Leaves k (pieces table (at + 1) k)
@@ -374,9 +375,9 @@ module _ (table : List Record) (depth opened at : ℕ) (l : Lent) where
     pub is : statement_at table at ≡ block at (variables_at table (at + 1) k) (statements_at table (at + 1 + k) n)
     pub ends : at + 1 + k + sizes (pieces table (at + 1 + k) n) ≡ at + size (tree_at table at)
 
-  pub block-ready : (k n : ℕ) → ReadyStatement table depth opened at l → node_at table at ≡ is.Block →
+  pub block-ready : (k n : ℕ) → node_at table at ≡ is.Block →
       k ≡ (get_or table at no_record).a → n ≡ second_parts (get_or table at no_record) → BlockReady k n
-  block-ready k n r b ek en =
+  block-ready k n b ek en =
       let v = blocked table at k n (at + 1 + k) no_record r.part.within r.part.sound b ek
       en refl in
       let s = subst (λ (s : Statement). ScopedStatement (globals_in table) (functions_in table) s r.own) v.is

@@ -1,9 +1,8 @@
 -- A whole walk: what an accepted table gives it, and how its answer and its slices are those of the run.
-use Rattle.std.proofs.Common.{◌≡◌, ℕ, ◌+◌, ◌-◌, ◌≤◌, Bool, true, false, List, [], ◌∷◌, ◌++◌, reverse, length, get_or, take, drop, ℤ, Ok, Err, Result, sym, refl, ap, ◌∙◌, arith, length-take}
+use Rattle.std.proofs.Common.{◌≡◌, ℕ, ◌+◌, ◌-◌, ◌≤◌, List, [], ◌∷◌, ◌++◌, reverse, length, get_or, take, drop, ℤ, Ok, Err, Result, sym, refl, ap, ◌∙◌, arith, length-take}
 use mathlib.Core.List.{reverse_aux, reverse_aux-eq, reverse-reverse}
 use Rattle.std.proofs.lemmas.List.{take-append-drop}
 use Rattle.script.specs.declared.record.Record.{Record}
-use Rattle.script.specs.declared.refusal.Refusal.{Refusal}
 use Rattle.script.specs.Sequence.{and_then}
 use Rattle.script.specs.Shape.{shape}
 use Rattle.syntax.specs.Syntax.{VariableDeclaration, Statement, Declaration, of_a_variable, of_a_function, Program, variables_of, globals_of}
@@ -12,7 +11,7 @@ use Rattle.syntax.specs.Typed.{program_of, program_in, declarations_of}
 use Rattle.syntax.proofs.Forests.{here}
 use Rattle.syntax.proofs.Shaped.{shaped, few-declarations}
 use Rattle.names.specs.declared.summary.Summary.{Summary}
-use Rattle.names.specs.Names.{Answer, name_rules, ◌⨟◌, unless}
+use Rattle.names.specs.Names.{Answer, name_rules}
 use Rattle.names.specs.Passes.{outcome}
 use Rattle.names.specs.Scoped.{WellNamed}
 use Rattle.names.specs.Tables.{table_rules, summary_of}
@@ -24,7 +23,7 @@ use Rattle.walk.specs.declared.state.Stop.TheVariants.{Returned, Ended}
 use Rattle.walk.specs.declared.state.Valued.{Valued}
 use Rattle.walk.specs.Lent.{Lent, state, every, shown, word_of}
 use Rattle.walk.specs.Ready.{Accepted}
-use Rattle.walk.specs.Walked.{walk_rules, leaves, walked_by, report_on}
+use Rattle.walk.specs.Walked.{leaves, walked_by, report_on}
 
 -- A table that passes is of accepted shape, and its summary is told.
 pub passed : (table : List Record) (s : Summary) → Ok s ≡ table_rules table →
@@ -60,23 +59,6 @@ few-globals table a =
     let e = ap (λ (t : Tree). length (program_in t).declarations) (here table 0 no_record a.some) in
     let k = short r.a (declarations_of (pieces table (0 + 1) (arity r))) in
     omega (arith, variables-among (program_of table).declarations, e, k, f)
-
--- The answers of a walk's checks, after the table has passed.
-module _ (table : List Record) (s : Summary) (e : Ok s ≡ table_rules table) (q r : Answer) where
-  pub first-fails : (x : Refusal) → Err x ≡ q → Err x ≡ and_then (table_rules table) (λ s. q ⨟ r)
-  first-fails x h = rw (← e, ← h) refl
-
-  pub second-counts : Ok tt ≡ q → (a : Answer) → a ≡ r → a ≡ and_then (table_rules table) (λ s. q ⨟ r)
-  second-counts h a k = rw (← e, ← h) k
-
--- What passes `unless` is so.
-pub unless-passes : (b : Bool) (x : Refusal) → Ok tt ≡ unless b x → b ≡ true
-unless-passes true x e = refl
-unless-passes false x e = cc
-
-pub refused-table : (table : List Record) (x : Refusal) (names words fuel depth : ℕ) → Err x ≡ table_rules table →
-    Err x ≡ walk_rules table names words fuel depth
-refused-table table x names words fuel depth e = rw (← e) refl
 
 -- A list is its front, back to front, laid over the rest.
 laid-over : {A : Type 0} (n : ℕ) (xs : List A) → reverse_aux (reverse (take n xs)) (drop n xs) ≡ xs

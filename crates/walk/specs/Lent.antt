@@ -27,6 +27,7 @@ pub record Lent : Type 0 where
   pub bound : ℕ
   pub fuel : ℕ
 
+-- What a walker was lent, and how far it has come.
 abbrev pub lent_in : Walker → Lent
 lent_in w = record {
   names = w.names.now;

@@ -1,5 +1,5 @@
 // The walk of a table over lent slices and bays.
-ghost use Rattle.std.specs.Prelude.{◌≡◌, ◌+◌, ◌*◌, ◌≤◌, ◌&&◌, length, OnOk, nat_le};
+ghost use Rattle.std.specs.Prelude.{◌≡◌, ◌+◌, ◌*◌, ◌≤◌, ◌&&◌, OnOk, nat_le};
 ghost use Rattle.racks.specs.Makes.{table_bays};
 ghost use Rattle.walk.specs.Ready.{Fit};
 ghost use Rattle.walk.specs.Walked.{walk_rules, walked, leaves};

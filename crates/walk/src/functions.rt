@@ -1,9 +1,5 @@
-// The function of a name.
-ghost use Rattle.std.specs.Prelude.{◌<◌, replicate};
-ghost use Rattle.script.specs.declared.rows.Sort.TheVariants.{Declaration};
-ghost use Rattle.syntax.specs.Syntax.{function_named, functions_of};
-ghost use Rattle.syntax.specs.Trees.{pieces, Sounds};
-ghost use Rattle.syntax.specs.Typed.{declarations_at};
+// The search for a function.
+ghost use Rattle.syntax.specs.Syntax.{function_named};
 ghost use Rattle.walk.specs.Ready.{Accepted, Finds, functions_in};
 
 use crate::skip::skip;
@@ -11,7 +7,7 @@ use script::Record;
 use script::rows::NodeKind;
 use syntax::parts::node_kind;
 
-// Its record.
+// The record of the function of a name.
 pub fn function(table: &[Record], name: u16) -> Option<usize>
     requires { Accepted table.now }
     ensures { Finds table.now (function_named name (functions_in table.now)) result }

@@ -12,6 +12,6 @@ pub fn apply(operator: Operator, x: i32, y: i32) -> i32
     match operator {
         Operator::Sum => x.sum(y),
         Operator::Difference => x.difference(y),
-        Operator::Greater => if x.greater(y) { 1 } else { 0 },
+        Operator::Greater => i32::from(x.greater(y)),
     }
 }

@@ -5,7 +5,7 @@ ghost use Rattle.walk.specs.Walked.{report_on};
 use crate::state::{Stop, Valued};
 use script::Ending;
 
-// The ending and the place stand here as a report tells them, and not as one field.
+// Ending and place stay apart: a report tells them as two lines.
 #[derive(Clone, Copy)]
 pub struct Report {
     pub ending: Ending,

@@ -1,5 +1,5 @@
 // The walk of expressions, argument lists, calls, statements, whiles and blocks, each of which calls others.
-ghost use Rattle.std.specs.Prelude.{◌≡◌, ◌+◌, ◌≤◌, reverse, length, take, pos};
+ghost use Rattle.std.specs.Prelude.{◌+◌, ◌≤◌, reverse, length, take};
 ghost use Rattle.script.specs.declared.rows.NodeKind.TheVariants as is;
 ghost use Rattle.walk.specs.Lent.{Same};
 ghost use Rattle.walk.specs.Ready.{Is};
@@ -16,7 +16,7 @@ use script::Ending;
 use script::rows::NodeKind;
 use syntax::parts::{node_kind, part_count, statement_count};
 
-// `opened` calls are open.
+// `opened` calls are open. Argument lists and statements recurse like the rest of the ring, by a rule of the project.
 impl<'a> Walker<'a> {
     #[cycle(walk)]
     pub fn expression(&mut self, at: usize, opened: usize) -> Result<Valued, Stop>

@@ -1,11 +1,11 @@
 // Where a part that does not run ends.
-ghost use Rattle.std.specs.Prelude.{◌≡◌, ℕ, ◌+◌, ◌<◌, ◌≤◌, length};
+ghost use Rattle.std.specs.Prelude.{◌≡◌, ◌+◌, ◌<◌, ◌≤◌, length};
 ghost use Rattle.syntax.specs.Trees.{tree_at, pieces, size, sizes};
 
 use script::Record;
 use script::rows::part_count;
 
-// The index after `count` parts from `at`.
+// The index after `count` parts from `at`. Parts have parts, so this stays a recursive function, by a rule of the project.
 fn past(table: &[Record], count: usize, at: usize) -> usize
     requires { at ≤ length table.now }
     ensures next { result ≡ at + sizes (pieces table.now at count) }
