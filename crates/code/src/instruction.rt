@@ -27,7 +27,7 @@ pub enum Operation {
 impl Operation {
     ghost use Rattle.code.specs.Instructions.{operation_number, operation_argument};
 
-    // Its number in the listing of a program's code.
+    // Its number in the list of operations.
     pub fn number(&self) -> u8
         ensures { result ≡ operation_number self.now }
     {

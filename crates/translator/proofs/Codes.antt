@@ -1,8 +1,8 @@
 -- Code put down piece by piece, with the jumps written last, is the code of the scheme.
-use Rattle.std.proofs.Common.{◌≡◌, ℕ, suc, ◌+◌, List, [], ◌∷◌, ◌++◌, map, length, set, replicate, ℤ, pos, sym, refl, ap, ◌∙◌, append_assoc, arith, length-append, length-set}
+use Rattle.std.proofs.Common.{◌≡◌, ℕ, suc, ◌+◌, List, [], ◌∷◌, ◌++◌, length, set, replicate, pos, sym, refl, ap, ◌∙◌, append_assoc, arith, length-append, length-set}
 use Rattle.std.proofs.lemmas.List.{set_at}
-use Rattle.syntax.specs.Syntax.{VariableDeclaration, declare, Expression, Statement, if_else, while, block, Statements, then}
-use Rattle.syntax.specs.Syntax.{name_of, bind_names}
+use Rattle.syntax.specs.Syntax.{VariableDeclaration, Expression, Statement, if_else, while, block, Statements, then}
+use Rattle.syntax.specs.Syntax.{bind_names}
 use Rattle.names.specs.declared.signature.Signature.{Signature}
 use Rattle.code.specs.declared.instruction.Operation.{Operation}
 use Rattle.code.specs.declared.instruction.Operation.TheVariants.{Lit, Pop, Jz, Jmp, Tick}
@@ -28,24 +28,16 @@ module _ (globals : List ℕ) (functions : List Signature) (leave : Operation) (
       let c : List Instruction = expression_code globals functions e own in
       let d : List Instruction = statement_code globals functions leave s own inner in
       let f : List Instruction = statement_code globals functions leave t own rest in
-      let n₁ : length tested ≡ length before + length c = ap length e₁ ∙ length-append before c in
-      let n₂ : length jumped ≡ length tested + 1 = ap length e₂ ∙ length-append tested (h₁ ∷ []) in
-      let n₃ : length first ≡ length jumped + length d = ap length e₃ ∙ length-append jumped d in
-      let n₄ : length skipped ≡ length first + 1 = ap length e₄ ∙ length-append first (h₂ ∷ []) in
-      let n₅ : length once ≡ length skipped = ap length e₅ ∙ length-set skipped test (op a (Jz other)) in
-      let n₆ : length second ≡ length once + length f = ap length e₆ ∙ length-append once f in
-      let inner-is : inner ≡ suc (start + length c) = omega arith in
-      let rest-is : rest ≡ suc (inner + length d) = omega arith in
-      let other-is : other ≡ rest = omega arith in
-      let end_is : end ≡ rest + length f = omega arith in
+      let inner-is : inner ≡ suc (start + length c) = omega (arith, length-append {A = Instruction}, ap length e₁, ap length e₂) in
+      let other-is : other ≡ rest = omega (arith, ap length e₅ ∙ length-set skipped test (op a (Jz other))) in
+      let rest-is : rest ≡ suc (inner + length d) = omega (arith, length-append {A = Instruction}, ap length e₃, ap length e₄) in
+      let end_is : end ≡ rest + length f = omega (arith, length-append {A = Instruction}, ap length e₆) in
       let b₄ : skipped ≡ (before ++ c) ++ h₁ ∷ (d ++ h₂ ∷ []) = e₄ ∙ rw (e₃, e₂, e₁) (simp append_assoc) in
       let b₅ : once ≡ (before ++ c) ++ op a (Jz other) ∷ (d ++ h₂ ∷ []) =
       e₅
-      ∙ rw b₄ (set_at (before ++ c) h₁ (d ++ h₂ ∷ []) (op a (Jz other)) test (length-append before c ∙ omega arith)) in
+      ∙ rw b₄ (set_at (before ++ c) h₁ (d ++ h₂ ∷ []) (op a (Jz other)) test (omega (arith, length-append {A = Instruction}, ap length e₁))) in
       let g : List Instruction = (before ++ c) ++ op a (Jz other) ∷ d in
-      let ng : length g ≡ skip =
-      length-append (before ++ c) (op a (Jz other) ∷ d)
-      ∙ (ap (λ (z : ℕ). z + suc (length d)) (length-append before c) ∙ omega arith) in
+      let ng : length g ≡ skip = omega (arith, length-append {A = Instruction}, ap length e₁, ap length e₂, ap length e₃) in
       let b₆ : second ≡ g ++ h₂ ∷ f = e₆ ∙ rw b₅ (simp append_assoc) in
       let b₇ : twice ≡ g ++ op a (Jmp end) ∷ f = e₇ ∙ rw b₆ (set_at g h₂ f (op a (Jmp end)) skip ng) in
       rw (← inner-is, ← rest-is) (b₇ ∙ rw (end_is, other-is) (simp append_assoc))
@@ -63,18 +55,14 @@ module _ (globals : List ℕ) (functions : List Signature) (leave : Operation) (
       l₀ l₁ l₂ l₃ e₁ e₂ e₃ e₄ e₅ e₆ e₇ e₈ =
       let c : List Instruction = expression_code globals functions e own in
       let d : List Instruction = statement_code globals functions leave s own inner in
-      let n₁ : length ticked ≡ length before + 1 = ap length e₁ ∙ length-append before (op a Tick ∷ []) in
-      let n₂ : length tested ≡ length ticked + length c = ap length e₂ ∙ length-append ticked c in
-      let n₃ : length jumped ≡ length tested + 1 = ap length e₃ ∙ length-append tested (h ∷ []) in
-      let n₄ : length body ≡ length jumped + length d = ap length e₄ ∙ length-append jumped d in
-      let n₅ : length popped ≡ length body + 1 = ap length e₅ ∙ length-append body (op a Pop ∷ []) in
-      let n₆ : length back ≡ length popped + 1 = ap length e₆ ∙ length-append popped (op a (Jmp start) ∷ []) in
-      let inner-is : inner ≡ suc (suc start + length c) = omega arith in
-      let end_is : end ≡ suc (suc (inner + length d)) = omega arith in
+      let inner-is : inner ≡ suc (suc start + length c) =
+      omega (arith, length-append {A = Instruction}, ap length e₁, ap length e₂, ap length e₃) in
+      let end_is : end ≡ suc (suc (inner + length d)) =
+      omega (arith, length-append {A = Instruction}, ap length e₄, ap length e₅, ap length e₆) in
       let front : List Instruction = before ++ op a Tick ∷ c in
       let tail : List Instruction = d ++ op a Pop ∷ op a (Jmp start) ∷ [] in
       let b₆ : back ≡ front ++ h ∷ tail = e₆ ∙ rw (e₅, e₄, e₃, e₂, e₁) (simp append_assoc) in
-      let nf : length front ≡ test = length-append before (op a Tick ∷ c) ∙ omega arith in
+      let nf : length front ≡ test = omega (arith, length-append {A = Instruction}, ap length e₁, ap length e₂) in
       let b₇ : once ≡ front ++ op a (Jz end) ∷ tail = e₇ ∙ rw b₆ (set_at front h tail (op a (Jz end)) test nf) in
       rw (← inner-is, ← end_is) (e₈ ∙ rw b₇ (simp append_assoc))
 
@@ -86,9 +74,7 @@ module _ (globals : List ℕ) (functions : List Signature) (leave : Operation) (
       all ≡ before ++ block_code globals functions leave (then s ss) own a start
   then-code a s ss before first popped all start rest l₀ l₂ e₁ e₂ e₃ =
       let c : List Instruction = statement_code globals functions leave s own start in
-      let n₁ : length first ≡ length before + length c = ap length e₁ ∙ length-append before c in
-      let n₂ : length popped ≡ length first + 1 = ap length e₂ ∙ length-append first (op a Pop ∷ []) in
-      let rest-is : rest ≡ suc (start + length c) = omega arith in
+      let rest-is : rest ≡ suc (start + length c) = omega (arith, length-append {A = Instruction}, ap length e₁, ap length e₂) in
       rw (← rest-is) (e₃ ∙ rw (e₂, e₁) (simp append_assoc))
 
   pops-are : (a : ℕ) (ds : List VariableDeclaration) → replicate (length ds) (op a Pop) ≡ pop_locals a ds
@@ -108,13 +94,3 @@ module _ (globals : List ℕ) (functions : List Signature) (leave : Operation) (
       ap (λ (z : ℕ). replicate z (op a Pop)) (sym l) ∙ pops-are a ds in
       let i' : start + length ds ≡ inner = omega arith in
       rw i' (e₄ ∙ rw (e₃, e₂, e₁, ps) (simp append_assoc))
-
--- The first of some locals, then the others: their words, and their names.
-module _ (b x : ℕ) (v : ℤ) (ds es : List VariableDeclaration) (first : ds ≡ declare b x v ∷ es) where
-  pub local-words : (a : ℕ) (before pushed all : List Instruction) → pushed ≡ before ++ op a (Lit v) ∷ [] →
-      all ≡ pushed ++ push_locals a es → all ≡ before ++ push_locals a ds
-  local-words a before pushed all p q = q ∙ rw (p, first) (append_assoc before (op a (Lit v) ∷ []) (push_locals a es))
-
-  pub local-names : (scope pushed all : List ℕ) → pushed ≡ scope ++ x ∷ [] → all ≡ pushed ++ map name_of es →
-      all ≡ scope ++ map name_of ds
-  local-names scope pushed all p q = q ∙ rw (p, first) (append_assoc scope (x ∷ []) (map name_of es))

@@ -46,7 +46,6 @@ pub record Halfway (a e : Emitter) (at first second end : ℕ) : Type 0 where
   pub shape : Chosen a.context.table.now at first second
   pub keeps : Keeps a e
   pub next : second ≡ first + size (tree_at a.context.table.now first)
-  pub longer : vec_len e.code.now ≤ end
   pub bound : end < vec_len e.code.now + 4 * size (tree_at a.context.table.now first)
 
 pub halfway : {a d e : Emitter} {at first second end : ℕ} → Part a.context.table.now at Statement →
@@ -60,7 +59,6 @@ halfway p kind m k l n b =
       shape = chosen _ _ _ _ p.within p.sound kind m (rw same at n);
       keeps = kept k l;
       next = rw (← same) n;
-      longer = b.0;
       bound = rw (← same) b.1;
     }
 

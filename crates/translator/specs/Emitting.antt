@@ -22,7 +22,7 @@ pub record Parts (table : List Record) (at count : ℕ) (w : Sort) : Type 0 wher
   pub sound : Sounds (pieces table at count) (replicate count w)
 
 -- Room for the code of statements of so many records from an index on: four instructions a record suffice, and each name
--- in scope has a record of its own, those of the statements from that index on.
+-- in scope has a record of its own, those of the statements from that index on. A table has at most 1,024 records.
 pub record HasRoom (e : Emitter) (at records : ℕ) : Type 0 where
   pub table : length e.context.table.now ≤ 1024
   pub names : e.scope.now.height + length e.context.table.now ≤ capacity e.scope.now + at

@@ -1,4 +1,4 @@
-use Rattle.std.proofs.Common.{◌+◌, ◌-◌, ◌<◌, [], ◌∷◌, ◌++◌, reverse, vec_items, refl, ap, ◌∙◌, arith}
+use Rattle.std.proofs.Common.{◌+◌, ◌-◌, ◌<◌, [], ◌∷◌, reverse, vec_items, refl, ap, ◌∙◌, arith}
 use Rattle.stack.specs.Store.{contents}
 use Rattle.syntax.specs.Trees.{no_record}
 use Rattle.syntax.proofs.Expressions.{expressed, firsts}
@@ -6,8 +6,8 @@ use Rattle.code.specs.declared.instruction.Operation.{Operation}
 use Rattle.code.specs.Scheme.{op}
 use Rattle.translator.specs.declared.emitter.Emitter.{Emitter}
 use Rattle.translator.specs.Emitting.{expression_here, arguments_here}
-use Rattle.translator.proofs.Emitters.{same_table, operation-kept, arguments-kept}
-use Rattle.translator.proofs.Lists.{joined}
+use Rattle.translator.proofs.Emitters.{kept, same_table, operation-kept, arguments-kept}
+use Rattle.translator.proofs.Lists.{joined, put_as}
 use Rattle.translator.proofs.Parts.{expression-code}
 use Rattle.translator.proofs.emitter.Emitter.+arguments_expression.Goals as goal
 
@@ -27,34 +27,26 @@ arguments-arguments-requires t c =
       (record { within = omega (arith, p.ends); sound = p.others }, omega (arith, p.whole)),
     )
 
-pub arguments-returns-clause-items : goal.arguments-returns-clause-items
-arguments-returns-clause-items t c =
+pub arguments-returns : goal.arguments-returns
+arguments-returns t c =
     let a : Emitter = c.args.self.now in
     let e : Emitter = c.expression-next.new.self in
     let k : 0 < c.args.count = omega arith in
     let p = firsts a.context.table.now c.args.at c.args.count c.expression-next.result _ k
     c.requires.parts.sound c.expression-next.ensures.next in
-    rw p.parts
-    (joined (vec_items a.code.now) (expression_here a c.args.at)
-    (arguments_here a c.expression-next.result (c.args.count - 1)) _ _ c.expression-next.ensures.items
-    (rw (← arguments-kept a e c.expression-next.ensures.keeps c.expression-next.result (c.args.count - 1))
-    c.arguments.ensures.items))
-
-pub arguments-returns-clause-len : goal.arguments-returns-clause-len
-arguments-returns-clause-len t c =
-    let k : 0 < c.args.count = omega arith in
-    let p = firsts c.args.self.now.context.table.now c.args.at c.args.count c.expression-next.result _ k
-    c.requires.parts.sound c.expression-next.ensures.next in
-    let n = rw (same_table c.args.self.now c.expression-next.new.self c.expression-next.ensures.keeps.loans) at c.arguments.ensures.len in
-    omega (arith, p.whole)
-
-pub arguments-returns-clause-next : goal.arguments-returns-clause-next
-arguments-returns-clause-next t c =
-    let k : 0 < c.args.count = omega arith in
-    let p = firsts c.args.self.now.context.table.now c.args.at c.args.count c.expression-next.result _ k
-    c.requires.parts.sound c.expression-next.ensures.next in
-    let n = rw (same_table c.args.self.now c.expression-next.new.self c.expression-next.ensures.keeps.loans) at c.arguments.ensures.next in
-    omega (arith, p.whole)
+    let same = same_table a e c.expression-next.ensures.keeps.loans in
+    let m = rw same at c.arguments.ensures.len in
+    let n = rw same at c.arguments.ensures.next in
+    record {
+      items = rw p.parts
+          (joined (vec_items a.code.now) (expression_here a c.args.at)
+          (arguments_here a c.expression-next.result (c.args.count - 1)) _ _ c.expression-next.ensures.items
+          (put_as _ c.arguments.ensures.items
+          (arguments-kept a e c.expression-next.ensures.keeps c.expression-next.result (c.args.count - 1))));
+      len = omega (arith, p.whole);
+      keeps = kept c.expression-next.ensures.keeps c.arguments.ensures.keeps;
+      next = omega (arith, p.whole);
+    }
 
 pub expression-arguments-next-requires : goal.expression-arguments-next-requires
 expression-arguments-next-requires t c =
@@ -68,27 +60,19 @@ expression-append-requires t c =
     c.requires.part.sound c.part_count.ensures in
     omega (arith, p.whole, c.arguments-next.ensures.keeps.loans.code_capacity)
 
-pub expression-returns-clause-items : goal.expression-returns-clause-items
-expression-returns-clause-items t c =
+pub expression-returns : goal.expression-returns
+expression-returns t c =
     let a : Emitter = c.args.self.now in
     let e : Emitter = c.arguments-next.new.self in
     let p = expressed a.context.table.now c.args.at _ no_record c.requires.part.within c.requires.part.sound
     c.part_count.ensures in
-    rw (expression-code (reverse a.context.globals.now) a.context.functions.now (reverse (contents a.scope.now)) _ _ _ _ p)
-    (joined (vec_items a.code.now) (arguments_here a (c.args.at + 1) c.part_count.result) _ _ _
-    c.arguments-next.ensures.items
-    (c.append.ensures.items
-    ∙ ap (λ (o : Operation). vec_items e.code.now ++ op c.args.at o ∷ [])
-    (c.operation-own.ensures ∙ operation-kept a e c.arguments-next.ensures.keeps _)))
-
-pub expression-returns-clause-len : goal.expression-returns-clause-len
-expression-returns-clause-len t c =
-    let p = expressed c.args.self.now.context.table.now c.args.at _ no_record c.requires.part.within
-    c.requires.part.sound c.part_count.ensures in
-    omega (arith, p.whole)
-
-pub expression-returns-clause-next : goal.expression-returns-clause-next
-expression-returns-clause-next t c =
-    let p = expressed c.args.self.now.context.table.now c.args.at _ no_record c.requires.part.within
-    c.requires.part.sound c.part_count.ensures in
-    omega (arith, p.whole)
+    record {
+      items = rw (expression-code (reverse a.context.globals.now) a.context.functions.now (reverse (contents a.scope.now)) _ _ _ _ p)
+          (joined (vec_items a.code.now) (arguments_here a (c.args.at + 1) c.part_count.result) _ _ _
+          c.arguments-next.ensures.items
+          (put_as _ c.append.ensures.items (ap (λ (o : Operation). op c.args.at o ∷ [])
+          (c.operation-own.ensures ∙ operation-kept a e c.arguments-next.ensures.keeps _))));
+      len = omega (arith, p.whole);
+      keeps = kept c.arguments-next.ensures.keeps c.append.ensures.keeps;
+      next = omega (arith, p.whole);
+    }

@@ -1,4 +1,4 @@
-use Rattle.std.proofs.Common.{◌≡◌, ℕ, ◌+◌, ◌-◌, List, [], ◌∷◌, map, reverse, length, vec_items, vec_len, sym, refl, ap, ◌∙◌, arith}
+use Rattle.std.proofs.Common.{◌≡◌, ℕ, ◌+◌, ◌-◌, List, [], ◌∷◌, map, reverse, length, vec_items, vec_len, sym, refl, ap, ◌∙◌, arith, rules}
 use Rattle.stack.specs.Store.{contents}
 use Rattle.stack.proofs.Contents.{length-contents, contents-cut}
 use Rattle.syntax.specs.Syntax.{VariableDeclaration, name_of}
@@ -51,43 +51,34 @@ if_statement-statement-next-requires t c =
       ready k.loans c.requires.room (omega (arith, k.height)) h.shape.second_within h.shape.second (omega (arith, h.shape.whole)),
     )
 
-pub if_statement-returns-clause-items : goal.if_statement-returns-clause-items
-if_statement-returns-clause-items t c =
+pub if_statement-returns : goal.if_statement-returns
+if_statement-returns t c =
     let a : Emitter = c.args.self.now in
     let h = halfway c.requires.part c.requires.kind c.expression-first.ensures.next c.expression-first.ensures.keeps
     c.append.ensures.keeps c.statement-second.ensures.next c.statement-second.ensures.bound in
     let k = kept (kept (kept h.keeps c.statement-second.ensures.keeps) c.append-2.ensures.keeps) c.patch.ensures.keeps in
-    rw h.shape.is
-    (if-code (reverse a.context.globals.now) a.context.functions.now c.args.leave (reverse (contents a.scope.now)) c.args.at
-    (expression_at a.context.table.now (c.args.at + 1)) (statement_at a.context.table.now c.expression-first.result)
-    (statement_at a.context.table.now c.statement-second.result) (vec_items a.code.now)
-    _ _ _ _ _ _ _ (vec_len a.code.now) c.len-test.result (vec_len c.append.new.self.code.now)
-    c.len-skip.result c.len-other.result (vec_len c.patch.new.self.code.now) c.len-end.result _ _
-    (long a.code.now) (long c.expression-first.new.self.code.now ∙ sym c.len-test.ensures)
-    (long c.append.new.self.code.now) (long c.statement-second.new.self.code.now ∙ sym c.len-skip.ensures)
-    (long c.append-2.new.self.code.now ∙ sym c.len-other.ensures) (long c.patch.new.self.code.now)
-    (long c.statement-next.new.self.code.now ∙ sym c.len-end.ensures)
-    c.expression-first.ensures.items c.append.ensures.items
-    (put_as _ c.statement-second.ensures.items (statement-kept a c.append.new.self h.keeps c.args.leave c.expression-first.result))
-    c.append-2.ensures.items c.patch.ensures.items
-    (put_as _ c.statement-next.ensures.items (statement-kept a c.patch.new.self k c.args.leave c.statement-second.result))
-    c.patch-2.ensures.items)
-
-pub if_statement-returns-clause-bound : goal.if_statement-returns-clause-bound
-if_statement-returns-clause-bound t c =
-    let h = halfway c.requires.part c.requires.kind c.expression-first.ensures.next c.expression-first.ensures.keeps
-    c.append.ensures.keeps c.statement-second.ensures.next c.statement-second.ensures.bound in
-    let k = kept (kept (kept h.keeps c.statement-second.ensures.keeps) c.append-2.ensures.keeps) c.patch.ensures.keeps in
     let b = rw (same_table _ _ k.loans) at c.statement-next.ensures.bound in
-    (omega arith, omega (arith, h.shape.whole))
-
-pub if_statement-returns-clause-next : goal.if_statement-returns-clause-next
-if_statement-returns-clause-next t c =
-    let h = halfway c.requires.part c.requires.kind c.expression-first.ensures.next c.expression-first.ensures.keeps
-    c.append.ensures.keeps c.statement-second.ensures.next c.statement-second.ensures.bound in
-    let k = kept (kept (kept h.keeps c.statement-second.ensures.keeps) c.append-2.ensures.keeps) c.patch.ensures.keeps in
     let n = rw (same_table _ _ k.loans) at c.statement-next.ensures.next in
-    omega (arith, h.shape.whole)
+    record {
+      items = rw h.shape.is
+          (if-code (reverse a.context.globals.now) a.context.functions.now c.args.leave (reverse (contents a.scope.now)) c.args.at
+          (expression_at a.context.table.now (c.args.at + 1)) (statement_at a.context.table.now c.expression-first.result)
+          (statement_at a.context.table.now c.statement-second.result) (vec_items a.code.now)
+          _ _ _ _ _ _ _ (vec_len a.code.now) c.len-test.result (vec_len c.append.new.self.code.now)
+          c.len-skip.result c.len-other.result (vec_len c.patch.new.self.code.now) c.len-end.result _ _
+          (long a.code.now) (long c.expression-first.new.self.code.now ∙ sym c.len-test.ensures)
+          (long c.append.new.self.code.now) (long c.statement-second.new.self.code.now ∙ sym c.len-skip.ensures)
+          (long c.append-2.new.self.code.now ∙ sym c.len-other.ensures) (long c.patch.new.self.code.now)
+          (long c.statement-next.new.self.code.now ∙ sym c.len-end.ensures)
+          c.expression-first.ensures.items c.append.ensures.items
+          (put_as _ c.statement-second.ensures.items (statement-kept a c.append.new.self h.keeps c.args.leave c.expression-first.result))
+          c.append-2.ensures.items c.patch.ensures.items
+          (put_as _ c.statement-next.ensures.items (statement-kept a c.patch.new.self k c.args.leave c.statement-second.result))
+          c.patch-2.ensures.items);
+      bound = (omega arith, omega (arith, h.shape.whole));
+      keeps = kept (kept k c.statement-next.ensures.keeps) c.patch-2.ensures.keeps;
+      next = omega (arith, h.shape.whole);
+    }
 
 pub while_statement-append-requires : goal.while_statement-append-requires
 while_statement-append-requires t c =
@@ -161,39 +152,32 @@ while_statement-append-requires-5 t c =
       c.statement-next.ensures.keeps.loans.code_capacity,
     )
 
-pub while_statement-returns-clause-items : goal.while_statement-returns-clause-items
-while_statement-returns-clause-items t c =
+pub while_statement-returns : goal.while_statement-returns
+while_statement-returns t c =
     let a : Emitter = c.args.self.now in
     let h = tested c.requires.part c.requires.kind c.append.ensures.keeps c.append.ensures.len c.expression-body.ensures.next
     c.expression-body.ensures.len c.expression-body.ensures.keeps c.append-2.ensures.keeps in
-    rw h.shape.is
-    (while-code (reverse a.context.globals.now) a.context.functions.now c.args.leave (reverse (contents a.scope.now)) c.args.at
-    (expression_at a.context.table.now (c.args.at + 1)) (statement_at a.context.table.now c.expression-body.result)
-    (vec_items a.code.now) _ _ _ _ _ _ _ _ (vec_len a.code.now)
-    c.len-test.result (vec_len c.append-2.new.self.code.now) c.len-end.result _
-    (long a.code.now) (long c.expression-body.new.self.code.now ∙ sym c.len-test.ensures)
-    (long c.append-2.new.self.code.now) (long c.append-4.new.self.code.now ∙ sym c.len-end.ensures)
-    c.append.ensures.items
-    (put_as _ c.expression-body.ensures.items (expression-kept a c.append.new.self c.append.ensures.keeps (c.args.at + 1)))
-    c.append-2.ensures.items
-    (put_as _ c.statement-next.ensures.items (statement-kept a c.append-2.new.self h.keeps c.args.leave c.expression-body.result))
-    c.append-3.ensures.items
-    (put_as _ c.append-4.ensures.items (ap (λ (z : ℕ). op c.args.at (Jmp z) ∷ []) c.len-again.ensures))
-    c.patch.ensures.items c.append-5.ensures.items)
-
-pub while_statement-returns-clause-bound : goal.while_statement-returns-clause-bound
-while_statement-returns-clause-bound t c =
-    let h = tested c.requires.part c.requires.kind c.append.ensures.keeps c.append.ensures.len c.expression-body.ensures.next
-    c.expression-body.ensures.len c.expression-body.ensures.keeps c.append-2.ensures.keeps in
     let b = rw (same_table _ _ h.keeps.loans) at c.statement-next.ensures.bound in
-    (omega (arith, h.len), omega (arith, h.shape.whole, h.shape.some, h.len))
-
-pub while_statement-returns-clause-next : goal.while_statement-returns-clause-next
-while_statement-returns-clause-next t c =
-    let h = tested c.requires.part c.requires.kind c.append.ensures.keeps c.append.ensures.len c.expression-body.ensures.next
-    c.expression-body.ensures.len c.expression-body.ensures.keeps c.append-2.ensures.keeps in
     let n = rw (same_table _ _ h.keeps.loans) at c.statement-next.ensures.next in
-    omega (arith, h.shape.whole)
+    record {
+      items = rw h.shape.is
+          (while-code (reverse a.context.globals.now) a.context.functions.now c.args.leave (reverse (contents a.scope.now)) c.args.at
+          (expression_at a.context.table.now (c.args.at + 1)) (statement_at a.context.table.now c.expression-body.result)
+          (vec_items a.code.now) _ _ _ _ _ _ _ _ (vec_len a.code.now)
+          c.len-test.result (vec_len c.append-2.new.self.code.now) c.len-end.result _
+          (long a.code.now) (long c.expression-body.new.self.code.now ∙ sym c.len-test.ensures)
+          (long c.append-2.new.self.code.now) (long c.append-4.new.self.code.now ∙ sym c.len-end.ensures)
+          c.append.ensures.items
+          (put_as _ c.expression-body.ensures.items (expression-kept a c.append.new.self c.append.ensures.keeps (c.args.at + 1)))
+          c.append-2.ensures.items
+          (put_as _ c.statement-next.ensures.items (statement-kept a c.append-2.new.self h.keeps c.args.leave c.expression-body.result))
+          c.append-3.ensures.items
+          (put_as _ c.append-4.ensures.items (ap (λ (z : ℕ). op c.args.at (Jmp z) ∷ []) c.len-again.ensures))
+          c.patch.ensures.items c.append-5.ensures.items);
+      bound = (omega (arith, h.len), omega (arith, h.shape.whole, h.shape.some, h.len));
+      keeps = search rules;
+      next = omega (arith, h.shape.whole);
+    }
 
 pub block-enter-requires : goal.block-enter-requires
 block-enter-requires t c =
@@ -224,57 +208,45 @@ block-append-requires t c =
     c.statements-next.ensures.keeps in
     omega (arith, h.shape.whole, h.bound.1, c.requires.room.code, h.capacity)
 
-pub block-returns-clause-items : goal.block-returns-clause-items
-block-returns-clause-items t c =
+pub block-returns : goal.block-returns
+block-returns t c =
     let a : Emitter = c.args.self.now in
     let k : ℕ = locals a c.args.at in
     let ds : List VariableDeclaration = variables_at a.context.table.now (c.args.at + 1) k in
     let h = inside c.requires.part c.requires.kind c.statement_count.ensures c.enter.ensures.loans c.statements-next.ensures.bound
     c.statements-next.ensures.keeps in
-    rw h.shape.is
-    (block-code (reverse a.context.globals.now) a.context.functions.now c.args.leave (reverse (contents a.scope.now)) c.args.at ds
-    (statements_at a.context.table.now (c.args.at + 1 + k) c.statement_count.result) (vec_items a.code.now) _ _ _ _
-    (vec_len a.code.now) (vec_len c.enter.new.self.code.now) k c.enter.ensures.len h.shape.many c.enter.ensures.items
-    (put_as _ c.statements-next.ensures.items
-    (statements-under a c.enter.new.self c.enter.ensures.loans c.args.leave (c.args.at + 1 + k) c.statement_count.result c.args.at _
-    (ap reverse c.enter.ensures.bound ∙ bound ds (contents a.scope.now))))
-    c.append_pops.ensures.items c.append.ensures.items)
-
-pub block-returns-clause-bound : goal.block-returns-clause-bound
-block-returns-clause-bound t c =
-    let h = inside c.requires.part c.requires.kind c.statement_count.ensures c.enter.ensures.loans c.statements-next.ensures.bound
-    c.statements-next.ensures.keeps in
-    (omega (arith, h.bound.0), omega (arith, h.shape.whole, h.bound.1))
-
-pub block-returns-clause-keeps : goal.block-returns-clause-keeps
-block-returns-clause-keeps t c =
-    let a : Emitter = c.args.self.now in
     let e : Emitter = c.append.new.self in
     let inner : Keeps c.enter.new.self e = kept (kept c.statements-next.ensures.keeps c.append_pops.ensures.keeps) c.append.ensures.keeps in
     let loans : SameLoans a e = same_loans c.enter.ensures.loans inner.loans in
     let mark : c.height-mark.result ≡ a.scope.now.height = c.height-mark.ensures in
-    record {
-      loans = record {
-        context = loans.context;
-        scope = loans.scope;
-        code = loans.code;
-        scope_capacity = ap length c.cut.ensures.words ∙ loans.scope_capacity;
-        code_capacity = loans.code_capacity;
-      };
-      names = dropped (contents a.scope.now) (map name_of (variables_at a.context.table.now (c.args.at + 1) (locals a c.args.at)))
-          _ _ _ _ (length-contents a.scope.now (omega (arith, c.requires.room.names, c.requires.part.within)) ∙ sym mark)
-          c.enter.ensures.bound inner.names
-          (contents-cut e.scope.now c.cut.new.self c.height-mark.result (omega (arith, inner.height, mark)) c.cut.ensures.words
-          c.cut.ensures.height);
-      height = c.cut.ensures.height ∙ mark;
-    }
-
-pub block-returns-clause-next : goal.block-returns-clause-next
-block-returns-clause-next t c =
-    let h = inside c.requires.part c.requires.kind c.statement_count.ensures c.enter.ensures.loans c.statements-next.ensures.bound
-    c.statements-next.ensures.keeps in
     let n = rw (same_table _ _ c.enter.ensures.loans) at c.statements-next.ensures.next in
-    omega (arith, h.shape.whole)
+    record {
+      items = rw h.shape.is
+          (block-code (reverse a.context.globals.now) a.context.functions.now c.args.leave (reverse (contents a.scope.now)) c.args.at ds
+          (statements_at a.context.table.now (c.args.at + 1 + k) c.statement_count.result) (vec_items a.code.now) _ _ _ _
+          (vec_len a.code.now) (vec_len c.enter.new.self.code.now) k c.enter.ensures.len h.shape.many c.enter.ensures.items
+          (put_as _ c.statements-next.ensures.items
+          (statements-under a c.enter.new.self c.enter.ensures.loans c.args.leave (c.args.at + 1 + k) c.statement_count.result c.args.at _
+          (ap reverse c.enter.ensures.bound ∙ bound ds (contents a.scope.now))))
+          c.append_pops.ensures.items c.append.ensures.items);
+      bound = (omega (arith, h.bound.0), omega (arith, h.shape.whole, h.bound.1));
+      keeps = record {
+        loans = record {
+          context = loans.context;
+          scope = loans.scope;
+          code = loans.code;
+          scope_capacity = ap length c.cut.ensures.words ∙ loans.scope_capacity;
+          code_capacity = loans.code_capacity;
+        };
+        names = dropped (contents a.scope.now) (map name_of (variables_at a.context.table.now (c.args.at + 1) (locals a c.args.at)))
+            _ _ _ _ (length-contents a.scope.now (omega (arith, c.requires.room.names, c.requires.part.within)) ∙ sym mark)
+            c.enter.ensures.bound inner.names
+            (contents-cut e.scope.now c.cut.new.self c.height-mark.result (omega (arith, inner.height, mark)) c.cut.ensures.words
+            c.cut.ensures.height);
+        height = c.cut.ensures.height ∙ mark;
+      };
+      next = omega (arith, h.shape.whole);
+    }
 
 pub statement-expression-next-requires : goal.statement-expression-next-requires
 statement-expression-next-requires t c =
@@ -294,21 +266,16 @@ statement-expression-requires t c =
     (λ e. c.in_default.not-While (c.node_kind.ensures ∙ e)) (λ e. c.in_default.not-Block (c.node_kind.ensures ∙ e))) in
     record { part = record { within = p.0.test_within; sound = p.0.test }; room = omega (arith, p.0.whole, c.requires.room.code) }
 
-pub statement-returns-in-Return-clause-items : goal.statement-returns-in-Return-clause-items
-statement-returns-in-Return-clause-items t c =
+pub statement-returns-in-Return : goal.statement-returns-in-Return
+statement-returns-in-Return t c =
     let a : Emitter = c.args.self.now in
     let p = return-at _ c.args.at c.requires.part.within c.requires.part.sound (sym c.in-Return.ensures) in
-    rw p.1 (joined (vec_items a.code.now) (expression_here a (c.args.at + 1)) _ _ _ c.expression-next.ensures.items c.append.ensures.items)
-
-pub statement-returns-in-Return-clause-bound : goal.statement-returns-in-Return-clause-bound
-statement-returns-in-Return-clause-bound t c =
-    let p = return-at _ c.args.at c.requires.part.within c.requires.part.sound (sym c.in-Return.ensures) in
-    (omega arith, omega (arith, p.0.whole))
-
-pub statement-returns-in-Return-clause-next : goal.statement-returns-in-Return-clause-next
-statement-returns-in-Return-clause-next t c =
-    let p = return-at _ c.args.at c.requires.part.within c.requires.part.sound (sym c.in-Return.ensures) in
-    omega (arith, p.0.whole)
+    record {
+      items = rw p.1 (joined (vec_items a.code.now) (expression_here a (c.args.at + 1)) _ _ _ c.expression-next.ensures.items c.append.ensures.items);
+      bound = (omega arith, omega (arith, p.0.whole));
+      keeps = kept c.expression-next.ensures.keeps c.append.ensures.keeps;
+      next = omega (arith, p.0.whole);
+    }
 
 pub statement-returns-in_default : goal.statement-returns-in_default
 statement-returns-in_default t c =
@@ -341,29 +308,22 @@ statements-statements-requires t c =
       several-ready k.loans c.requires.room (omega (arith, p.later, k.height)) (omega (arith, p.ends)) p.others (omega (arith, p.whole)),
     )
 
-pub statements-returns-clause-items : goal.statements-returns-clause-items
-statements-returns-clause-items t c =
+pub statements-returns : goal.statements-returns
+statements-returns t c =
     let a : Emitter = c.args.self.now in
     let p = firsts _ c.args.at c.args.count _ _ (omega arith) c.requires.parts.sound c.statement-next.ensures.next in
     let k = kept c.statement-next.ensures.keeps c.append.ensures.keeps in
-    rw p.parts
-    (then-code (reverse a.context.globals.now) a.context.functions.now c.args.leave (reverse (contents a.scope.now)) c.args.place
-    (statement_at a.context.table.now c.args.at) (statements_at a.context.table.now c.statement-next.result (c.args.count - 1))
-    (vec_items a.code.now) _ _ _ (vec_len a.code.now) (vec_len c.append.new.self.code.now) (long a.code.now)
-    (long c.append.new.self.code.now) c.statement-next.ensures.items c.append.ensures.items
-    (put_as _ c.statements.ensures.items
-    (statements-kept a c.append.new.self k c.args.leave c.statement-next.result (c.args.count - 1) c.args.place)))
-
-pub statements-returns-clause-bound : goal.statements-returns-clause-bound
-statements-returns-clause-bound t c =
-    let p = firsts _ c.args.at c.args.count _ _ (omega arith) c.requires.parts.sound c.statement-next.ensures.next in
-    let k = kept c.statement-next.ensures.keeps c.append.ensures.keeps in
     let b = rw (same_table _ _ k.loans) at c.statements.ensures.bound in
-    (omega arith, omega (arith, p.whole))
-
-pub statements-returns-clause-next : goal.statements-returns-clause-next
-statements-returns-clause-next t c =
-    let p = firsts _ c.args.at c.args.count _ _ (omega arith) c.requires.parts.sound c.statement-next.ensures.next in
-    let k = kept c.statement-next.ensures.keeps c.append.ensures.keeps in
     let n = rw (same_table _ _ k.loans) at c.statements.ensures.next in
-    omega (arith, p.whole)
+    record {
+      items = rw p.parts
+          (then-code (reverse a.context.globals.now) a.context.functions.now c.args.leave (reverse (contents a.scope.now)) c.args.place
+          (statement_at a.context.table.now c.args.at) (statements_at a.context.table.now c.statement-next.result (c.args.count - 1))
+          (vec_items a.code.now) _ _ _ (vec_len a.code.now) (vec_len c.append.new.self.code.now) (long a.code.now)
+          (long c.append.new.self.code.now) c.statement-next.ensures.items c.append.ensures.items
+          (put_as _ c.statements.ensures.items
+          (statements-kept a c.append.new.self k c.args.leave c.statement-next.result (c.args.count - 1) c.args.place)));
+      bound = (omega arith, omega (arith, p.whole));
+      keeps = kept k c.statements.ensures.keeps;
+      next = omega (arith, p.whole);
+    }

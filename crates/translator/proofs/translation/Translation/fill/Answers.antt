@@ -22,9 +22,7 @@ empty-translation t h = (
 
 pub statement-requires : goal.statement-requires
 statement-requires c =
-    let table : List Record = c.args.context.table.now in
-    let p = programmed table (get_or table 0 no_record).a c.args.main no_record c.requires.part.within c.requires.part.sound refl
-    c.requires.after in
+    let p = programmed _ _ _ no_record c.requires.part.within c.requires.part.sound refl c.requires.after in
     let none = empty-translation c.clear.new.self c.clear.ensures in
     record {
       part = record { within = p.within; sound = p.body };
@@ -37,9 +35,7 @@ statement-requires c =
 
 pub append-requires : goal.append-requires
 append-requires c =
-    let table : List Record = c.args.context.table.now in
-    let p = programmed table (get_or table 0 no_record).a c.args.main no_record c.requires.part.within c.requires.part.sound refl
-    c.requires.after in
+    let p = programmed _ _ _ no_record c.requires.part.within c.requires.part.sound refl c.requires.after in
     let none = empty-translation c.clear.new.self c.clear.ensures in
     omega (
       arith,
@@ -52,11 +48,9 @@ append-requires c =
 
 pub declarations-requires : goal.declarations-requires
 declarations-requires c =
-    let table : List Record = c.args.context.table.now in
-    let p = programmed table (get_or table 0 no_record).a c.args.main no_record c.requires.part.within c.requires.part.sound refl
-    c.requires.after in
+    let p = programmed _ _ _ no_record c.requires.part.within c.requires.part.sound refl c.requires.after in
     let none = empty-translation c.clear.new.self c.clear.ensures in
-    let few = few-declarations table no_record c.requires.part.within c.requires.part.sound in
+    let few = few-declarations _ no_record c.requires.part.within c.requires.part.sound in
     let k = kept c.statement.ensures.keeps c.append.ensures.keeps in
     let same = same_table _ c.append.new.self k.loans in
     rw same record {
@@ -97,9 +91,7 @@ returns-clause-made c =
 
 pub returns-clause-short : goal.returns-clause-short
 returns-clause-short c =
-    let table : List Record = c.args.context.table.now in
-    let p = programmed table (get_or table 0 no_record).a c.args.main no_record c.requires.part.within c.requires.part.sound refl
-    c.requires.after in
+    let p = programmed _ _ _ no_record c.requires.part.within c.requires.part.sound refl c.requires.after in
     let same = same_table _ c.append.new.self (kept c.statement.ensures.keeps c.append.ensures.keeps).loans in
     let b = rw same at c.declarations.ensures.bound in
     omega (
