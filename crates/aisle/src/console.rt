@@ -5,7 +5,7 @@ use crate::wording::{Ended, Explained, Numbers};
 use cell::{Answer, Call, Cell, State};
 use kinds::NumberKind;
 use racks::{BayTable, OccupancyRack, Rack, RailRack};
-use script::{Ending, Refusal, RunEnd};
+use script::{Ending, Refusal};
 use std::{fmt, io};
 use texts::job::{CallLine, Job, RackChoice};
 
@@ -83,10 +83,6 @@ fn print_cell(rt: &HostRuntime, cell: &Cell) -> io::Result<()> {
 fn print_run<W: fmt::Display>(rt: &HostRuntime, cell: &Cell, words: &[W]) -> io::Result<()> {
     let globals = cell.globals();
     if let Some(end) = cell.end() {
-        let end = RunEnd {
-            ending: end.ending,
-            place: end.place,
-        };
         println!(rt; "{}", Numbers(end))?;
         if end.ending == Ending::Done
             && let Some(answer) = words.get(globals)
