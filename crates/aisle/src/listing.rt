@@ -26,21 +26,6 @@ fn name_of(operation: Operation) -> &'static str {
     }
 }
 
-// The argument, 0 where there is none.
-fn argument_of(operation: Operation) -> i128 {
-    match operation {
-        Operation::Lit(number) => i128::from(number),
-        Operation::GetL(index)
-        | Operation::SetL(index)
-        | Operation::GetG(index)
-        | Operation::SetG(index)
-        | Operation::Jz(index)
-        | Operation::Jmp(index)
-        | Operation::Call(index) => index as i128,
-        _ => 0,
-    }
-}
-
 #[derive(Clone, Copy)]
 struct Listed(Instruction);
 
@@ -48,8 +33,7 @@ impl fmt::Display for Listed {
     fn fmt<W: fmt::Write>(&self, f: &mut fmt::Formatter<W>) -> fmt::Result {
         let Instruction { operation, place } = self.0;
         let name = name_of(operation);
-        let argument = argument_of(operation);
-        write!(f, "{name} {argument}, place {place}")
+        write!(f, "{name} {}, place {place}", operation.argument())
     }
 }
 

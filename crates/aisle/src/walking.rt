@@ -31,14 +31,7 @@ pub fn walk_job(rt: &HostRuntime, job: &TableJob) -> anyhow::Result<()> {
     let mut names = vec![in heap; 0u16; slices as usize]?;
     let mut words = vec![in heap; 0i32; slices as usize]?;
     let mut bays = BayTable::new(bays as usize);
-    match walk(
-        &job.table,
-        &mut names,
-        &mut words,
-        &mut bays,
-        limits.fuel,
-        limits.depth,
-    ) {
+    match walk(&job.table, &mut names, &mut words, &mut bays, limits) {
         Ok(report) => {
             print_report(rt, report)?;
             if let Ok(summary) = check_table(&job.table)

@@ -1,6 +1,7 @@
 -- The rules for names pass exactly the programs that are well named: rule by rule, both ways.
-use Rattle.std.proofs.Common.{◌≡◌, ℕ, suc, Bool, true, false, cond, not, ◌||◌, eqb, leb, ◌⊎◌, List, [], ◌∷◌, ◌++◌, map, reverse, length, is_some, Some, Ok, Err, sym, refl, ap, inl, inr, arith}
-use Rattle.std.proofs.lemmas.Bool.{eqb-true, eq-eqb, eqb-false, leb-true, le-leb}
+use Rattle.std.proofs.Common.{◌≡◌, ℕ, suc, Bool, true, false, cond, not, ◌||◌, eqb, leb, ◌⊎◌, List, [], ◌∷◌, ◌++◌, map, reverse, length, is_some, Some, Ok, Err, sym, refl, inl, inr}
+use Rattle.std.proofs.lemmas.List.{map-append}
+use Rattle.std.proofs.lemmas.Bool.{false≢true, eqb-true, eq-eqb, eqb-false, leb-true, le-leb}
 use Rattle.script.specs.declared.refusal.Refusal.{Refusal}
 use Rattle.script.specs.declared.refusal.Refusal.TheVariants.{DeclaredTwice, Undeclared, ArgumentCount, FrameNeed}
 use Rattle.syntax.specs.Syntax.{VariableDeclaration, declare, Expression, constant, variable, binary, assign, call}
@@ -31,29 +32,26 @@ Fine a = a ≡ Ok tt
 
 -- ---- rules and tests
 
-impossible : false ≡ true → ⊥
-impossible p = let z : ◌≡◌ {A = ℕ} 0 1 = cc in omega arith
-
 both : (a b : Answer) {A B : Type 0} → Fine a ⇔ A → Fine b ⇔ B → Fine (a ⨟ b) ⇔ (A × B)
 both (Ok tt) b f g = (λ p. (f.0 refl, g.0 p), λ q. g.1 q.1)
 both (Err e) b f g = (λ p. absurd (never e p), λ q. absurd (never e (f.1 q.0)))
 
 test : (b : Bool) (e : Refusal) {B : Type 0} → (b ≡ true) ⇔ B → Fine (unless b e) ⇔ B
 test true e f = (λ p. f.0 refl, λ q. refl)
-test false e f = (λ p. absurd (never e p), λ q. absurd (impossible (f.1 q)))
+test false e f = (λ p. absurd (never e p), λ q. absurd (false≢true (f.1 q)))
 
 either : (a b : Bool) {A B : Type 0} → (a ≡ true) ⇔ A → (b ≡ true) ⇔ B → ((a || b) ≡ true) ⇔ (A ⊎ B)
 either true b f g = (λ p. inl (f.0 refl), λ q. refl)
-either false b f g = (λ p. inr (g.0 p), λ q. elim q [ inl x ↦ absurd (impossible (f.1 x)) | inr y ↦ g.1 y ])
+either false b f g = (λ p. inr (g.0 p), λ q. elim q [ inl x ↦ absurd (false≢true (f.1 x)) | inr y ↦ g.1 y ])
 
 opposite : (b : Bool) {B : Type 0} → (b ≡ true) ⇔ B → (not b ≡ true) ⇔ (B → ⊥)
-opposite true f = (λ p x. impossible p, λ q. absurd (q (f.0 refl)))
-opposite false f = (λ p x. impossible (f.1 x), λ q. refl)
+opposite true f = (λ p x. false≢true p, λ q. absurd (q (f.0 refl)))
+opposite false f = (λ p x. false≢true (f.1 x), λ q. refl)
 
 -- ---- names
 
 located : (x : ℕ) (names : List ℕ) → (is_some (locate x names) ≡ true) ⇔ Member x names
-located x [] = (λ p. absurd (impossible p), λ q. absurd q)
+located x [] = (λ p. absurd (false≢true p), λ q. absurd q)
 located x (n ∷ names) = go (eqb x n) refl (located x names)
   where
     go : (b : Bool) → eqb x n ≡ b → (is_some (locate x names) ≡ true) ⇔ Member x names →
@@ -63,7 +61,7 @@ located x (n ∷ names) = go (eqb x n) refl (located x names)
 
 listed : (x : ℕ) (functions : List Signature) → (is_function x functions ≡ true)
     ⇔ Member x (map (λ (f : Signature). f.name) functions)
-listed x [] = (λ p. absurd (impossible p), λ q. absurd q)
+listed x [] = (λ p. absurd (false≢true p), λ q. absurd q)
 listed x (f ∷ fs) = go (eqb x f.name) refl (listed x fs)
   where
     go : (b : Bool) → eqb x f.name ≡ b → (is_function x fs ≡ true)
@@ -188,11 +186,6 @@ appended x (y ∷ ys) z =
 abbrev names : List Signature → List ℕ
 names functions = map (λ (f : Signature). f.name) functions
 
-names-append : (functions : List Signature) (f : Signature) → names (functions ++ f ∷ [])
-    ≡ names functions ++ f.name ∷ []
-names-append [] f = refl
-names-append (g ∷ gs) f = ap (λ (l : List ℕ). g.name ∷ l) (names-append gs f)
-
 -- The declarations differ from one another and from those before them.
 record Differ (ds : List Declaration) (variables functions : List ℕ) : Type 0 where
   pub new_variables : Apart (map name_of (variables_of ds)) variables
@@ -235,7 +228,7 @@ declarations (of_a_function f ∷ ds) variables functions =
     (declarations ds variables (functions ++ signature f ∷ [])) in
     let fs : List ℕ = map function_name (functions_of ds) in
     let e : names (functions ++ signature f ∷ [])
-    ≡ names functions ++ f.name ∷ [] = names-append functions (signature f) in
+    ≡ names functions ++ f.name ∷ [] = map-append (λ (g : Signature). g.name) functions (signature f ∷ []) in
     let g : Apart fs (names (functions ++ signature f ∷ []))
     ⇔ (Apart fs (names functions) × (Member f.name fs → ⊥)) =
     rw e (apart_more f.name (names functions) (names functions ++ f.name ∷ [])

@@ -1,18 +1,23 @@
 -- The rules of the functions' parameters and bodies, one function after another.
-use Rattle.std.proofs.Common.{◌≡◌, ℕ, zero, suc, ◌+◌, ◌-◌, not, List, [], ◌∷◌, map, reverse, get_or, Ok, Err, Result, sym, refl, ap, ◌∙◌, add-one, arith}
+use Rattle.std.proofs.Common.{◌≡◌, ℕ, zero, suc, ◌+◌, ◌-◌, ◌<◌, not, List, [], ◌∷◌, ◌++◌, map, reverse, get_or, Ok, Err, Result, sym, refl, ap, ◌∙◌, add-one, arith}
+use Rattle.script.specs.declared.rows.Sort.TheVariants.{Declaration as DeclarationSort}
 use Rattle.script.specs.declared.record.Record.{Record}
 use Rattle.script.specs.declared.refusal.Refusal.{Refusal}
 use Rattle.script.specs.declared.refusal.Refusal.TheVariants.{DeclaredTwice}
-use Rattle.syntax.specs.Syntax.{VariableDeclaration, declare, Declaration, of_a_variable, of_a_function, Function, name_of}
+use Rattle.syntax.specs.Syntax.{VariableDeclaration, declare, Declaration, of_a_variable, of_a_function, name_of}
 use Rattle.syntax.specs.Syntax.{functions_of}
-use Rattle.syntax.specs.Trees.{pieces, Leaves, no_record}
-use Rattle.syntax.specs.Typed.{variables_at}
+use Rattle.syntax.specs.Trees.{Tree, tree_at, pieces, size, sizes, Leaves, no_record}
+use Rattle.syntax.specs.Typed.{variables_at, statement_at, declarations_at, make_declaration, node_kind}
+use Rattle.names.specs.Parts.{Parts}
+use Rattle.names.specs.declared.context.Context.{Context}
 use Rattle.syntax.proofs.Statements.{declared-first}
+use Rattle.syntax.proofs.Declarations.{FirstFunction}
 use Rattle.names.specs.declared.signature.Signature.{Signature}
 use Rattle.names.specs.Names.{Answer, ◌⨟◌, unless, declared, local_rules, parameter_rules, statement_rules}
 use Rattle.names.specs.Names.{function_rules}
-use Rattle.names.specs.Passes.{outcome}
-use Rattle.names.proofs.Outcomes.{refused, on}
+use Rattle.names.specs.Passes.{outcome, checked_locals, checked_statement, checked_functions}
+use Rattle.names.proofs.Outcomes.{last, refused, regroup, went}
+use Rattle.names.proofs.Several.{first}
 
 -- Parameters are declared as locals are.
 as-locals : (globals : List ℕ) (table : List Record) (at n : ℕ) (own : List ℕ) → Leaves n (pieces table at n) →
@@ -41,38 +46,74 @@ parameters-as-locals globals table at n scope s e =
     ∙ (as-locals globals table (at + 1) n [] s
     ∙ ap (λ (l : List ℕ). local_rules globals (variables_at table (at + 1) n) (reverse l)) (sym e))
 
--- A function first; `a` is the answer for its parameters.
-module _ (globals : List ℕ) (functions : List Signature) (ds es : List Declaration) (f : Function)
-    (first : ds ≡ of_a_function f ∷ es)
-    (a : Answer) (same : parameter_rules globals f.parameters (suc f.place) [] ≡ a) where
-  pub parameters-refused : (n m : ℕ) (y : Refusal) → Err y ≡ outcome a n → Err y
-      ≡ outcome (function_rules globals functions (functions_of ds)) m
-  parameters-refused n m y h =
-      rw (first, same)
-      (refused a (statement_rules globals functions f.body (reverse f.parameters)
-      ⨟ function_rules globals functions (functions_of es)) n m y h)
+-- A function alone, whose parameters are declared on an empty scope.
+module _ (c : Context) (at n m e : ℕ) (r : Record) (p : FirstFunction c.table.now at 1 n m e r) (scope : List ℕ)
+    (none : scope ≡ []) where
+  abbrev xs : List VariableDeclaration
+  xs = variables_at c.table.now (at + 1) n
 
-  module _ (own : List ℕ) (bound : own ≡ reverse f.parameters) (ok : a ≡ Ok tt) where
-    pub body_refused : (n m : ℕ) (y : Refusal) → Err y ≡ outcome (statement_rules globals functions f.body own) n →
-        Err y ≡ outcome (function_rules globals functions (functions_of ds)) m
-    body_refused n m y h =
-        rw (first, same, ok)
-        (refused (statement_rules globals functions f.body (reverse f.parameters))
-        (function_rules globals functions (functions_of es)) n m y (rw bound at h))
+  abbrev parameters : Answer
+  parameters = local_rules (reverse c.globals.now) xs (reverse scope)
 
-    pub body-done : (n m : ℕ) (r : Result ℕ Refusal) → statement_rules globals functions f.body own ≡ Ok tt → n
-        ≡ m →
-        r ≡ outcome (function_rules globals functions (functions_of es)) n → r
-        ≡ outcome (function_rules globals functions (functions_of ds)) m
-    body-done n m r p q h =
-        rw (first, same, ok)
-        (on (statement_rules globals functions f.body (reverse f.parameters))
-        (function_rules globals functions (functions_of es)) n m r (rw bound at p) q h)
+  abbrev body : Answer
+  body = statement_rules (reverse c.globals.now) c.functions.now (statement_at c.table.now m) (reverse (map name_of xs))
 
--- A variable first.
-pub past-variable : (globals : List ℕ) (functions : List Signature) (ds es : List Declaration)
-    (d : VariableDeclaration) (n m : ℕ) (r : Result ℕ Refusal) →
-    ds ≡ of_a_variable d ∷ es → n ≡ m →
-    r ≡ outcome (function_rules globals functions (functions_of es)) n → r
-    ≡ outcome (function_rules globals functions (functions_of ds)) m
-past-variable globals functions ds es d n m r e q h = rw (e, ← q) h
+  same : parameter_rules (reverse c.globals.now) (map name_of xs) (suc at) [] ≡ parameters
+  same = parameters-as-locals (reverse c.globals.now) c.table.now at n scope p.function.parameters none
+
+  pub parameters-refused : (y : Refusal) → Err y ≡ checked_locals c n (at + 1) scope → Err y ≡ checked_functions c 1 at
+  parameters-refused y h = rw (p.is, same) (refused parameters (body ⨟ Ok tt) _ _ y h)
+
+  pub function-answered : (inner : List ℕ) (out : Result ℕ Refusal) → e ≡ m + size (tree_at c.table.now m) →
+      Ok m ≡ checked_locals c n (at + 1) scope → inner ≡ scope ++ map name_of xs → out ≡ checked_statement c m inner →
+      out ≡ checked_functions c 1 at
+  function-answered inner out ends h names q =
+      let w = went parameters _ m h in
+      let none' : inner ≡ map name_of xs = rw none at names in
+      let bound : reverse inner ≡ reverse (map name_of xs) = ap reverse none' in
+      let end : m + size (tree_at c.table.now m) ≡ at + sizes (pieces c.table.now at 1) = omega (arith, p.whole, ends) in
+      rw (p.is, same, w.0, last body) (rw (bound, end) at q)
+
+-- A variable alone.
+pub variable-answered : (globals : List ℕ) (functions : List Signature) (ds : List Declaration) (d : VariableDeclaration)
+    (n m : ℕ) → ds ≡ of_a_variable d ∷ [] → n ≡ m → Ok n ≡ outcome (function_rules globals functions (functions_of ds)) m
+variable-answered globals functions ds d n m e q = rw (e, q) refl
+
+-- The functions among several declarations: that of the first, then those of the others.
+module _ (globals : List ℕ) (functions : List Signature) where
+  in-order : (d : Declaration) (ds : List Declaration) →
+      function_rules globals functions (functions_of (d ∷ ds))
+      ≡ function_rules globals functions (functions_of (d ∷ [])) ⨟ function_rules globals functions (functions_of ds)
+  in-order (of_a_variable v) ds = refl
+  in-order (of_a_function f) ds =
+      let a : Answer = parameter_rules globals f.parameters (suc f.place) [] in
+      let b : Answer = statement_rules globals functions f.body (reverse f.parameters) in
+      let c : Answer = function_rules globals functions (functions_of ds) in
+      regroup a b c ∙ ap (λ (z : Answer). (a ⨟ z) ⨟ c) (sym (last b))
+
+module _ (c : Context) (at n : ℕ) (k : 0 < n) (parts : Parts c.table.now at n DeclarationSort) where
+  rules : List Declaration → Answer
+  rules ds = function_rules (reverse c.globals.now) c.functions.now (functions_of ds)
+
+  split : (m : ℕ) → m ≡ at + sizes (pieces c.table.now at 1) →
+      rules (declarations_at c.table.now at n)
+      ≡ rules (declarations_at c.table.now at 1) ⨟ rules (declarations_at c.table.now m (n - 1))
+  unfolding rules
+  split m e =
+      let p = first c.table.now at n m DeclarationSort k parts e in
+      let t : Tree = tree_at c.table.now at in
+      rw (p.parts, p.alone)
+      (in-order (reverse c.globals.now) c.functions.now (make_declaration (node_kind t) t)
+      (declarations_at c.table.now m (n - 1)))
+
+  pub functions-refused : (y : Refusal) → Err y ≡ checked_functions c 1 at → Err y ≡ checked_functions c n at
+  unfolding rules
+  functions-refused y h =
+      rw (split (at + sizes (pieces c.table.now at 1)) refl) (refused (rules (declarations_at c.table.now at 1)) _ _ _ y h)
+
+  pub functions-done : (m : ℕ) → Ok m ≡ checked_functions c 1 at → checked_functions c (n - 1) m ≡ checked_functions c n at
+  unfolding rules
+  functions-done m h =
+      let w = went (rules (declarations_at c.table.now at 1)) _ m h in
+      let p = first c.table.now at n m DeclarationSort k parts w.1 in
+      rw (split m w.1, w.0, p.whole) refl

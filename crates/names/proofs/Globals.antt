@@ -1,70 +1,56 @@
 -- The rules of the global declarations, one declaration after another.
-use Rattle.std.proofs.Common.{◌≡◌, ℕ, ◌+◌, max, true, false, not, List, [], ◌∷◌, ◌++◌, map, reverse, length, ℤ, is_some, IfOk, Ok, Err, Option, Result, sym, refl, ap, ◌∙◌, append_assoc, arith}
+use Rattle.std.proofs.Common.{◌≡◌, ℕ, ◌+◌, ◌-◌, ◌<◌, max, true, false, not, List, [], ◌∷◌, ◌++◌, map, reverse, length, ℤ, is_some, Ok, Err, Option, Result, sym, refl, ap, ◌∙◌, append_assoc, append-nil, arith}
 use Rattle.std.proofs.lemmas.List.{reverse-append}
+use Rattle.script.specs.declared.record.Record.{Record}
 use Rattle.script.specs.declared.refusal.Refusal.{Refusal}
 use Rattle.script.specs.declared.refusal.Refusal.TheVariants.{DeclaredTwice}
+use Rattle.script.specs.declared.rows.Sort.TheVariants.{Declaration as DeclarationSort}
 use Rattle.syntax.specs.Syntax.{declare, Declaration, of_a_variable, of_a_function, Function, name_of}
 use Rattle.syntax.specs.Syntax.{variables_of, functions_of, locate}
+use Rattle.syntax.specs.Trees.{tree_at, pieces, sizes}
+use Rattle.syntax.specs.Typed.{declarations_of, declarations_at, make_declaration, node_kind}
 use Rattle.names.specs.declared.frame.Measured.{Measured}
 use Rattle.names.specs.declared.signature.Signature.{Signature}
 use Rattle.names.specs.Need.{need_functions, need_statement}
-use Rattle.names.specs.Names.{unless, global_rules, is_function, signature}
-use Rattle.names.specs.Passes.{outcome}
-use Rattle.names.proofs.Outcomes.{twice, went, refused-after}
+use Rattle.names.specs.Names.{◌⨟◌, unless, global_rules, is_function, signature}
+use Rattle.names.specs.Parts.{Parts}
+use Rattle.names.specs.Passes.{outcome, checked_globals}
+use Rattle.names.proofs.Outcomes.{last, twice, went, refused}
+use Rattle.names.proofs.Several.{first}
 
 abbrev measured : ℕ → ℕ → Measured
 measured w n = record { words = w; next = n }
 
--- A function first: `seen` are the signatures that the search went through.
-module _ (ds es : List Declaration) (f : Function) (variables : List ℕ) (functions seen : List Signature)
-    (first : ds ≡ of_a_function f ∷ es) (same : seen ≡ functions) where
+measured-is : (x : Measured) (w n : ℕ) → x.words ≡ w → x.next ≡ n → x ≡ measured w n
+measured-is x w n p q = rw (← p, ← q) refl
+
+-- A function alone: `seen` are the signatures that the search went through.
+module _ (ds : List Declaration) (f : Function) (variables : List ℕ) (functions seen : List Signature)
+    (only : ds ≡ of_a_function f ∷ []) (same : seen ≡ functions) where
   pub function-again : (m : Measured) → true ≡ is_function f.name seen →
       Err (DeclaredTwice f.place) ≡ outcome (global_rules ds variables functions) m
   function-again m p =
-      rw (first, ← same)
-      (twice (is_function f.name seen) (DeclaredTwice f.place)
-      (global_rules es variables (seen ++ signature f ∷ [])) m (sym p))
+      rw (only, ← same) (twice (is_function f.name seen) (DeclaredTwice f.place) (Ok tt) m (sym p))
 
-  module _ (after : List Signature) (n : ℕ)
-      (pushed : after ≡ functions ++ record { name = f.name; count = n; place = f.place } ∷ [])
-      (count : length f.parameters ≡ n) (fresh : false ≡ is_function f.name seen) where
-    after_is : after ≡ functions ++ signature f ∷ []
-    after_is = pushed ∙ rw count refl
+  pub function-new : (n w e b : ℕ) → false ≡ is_function f.name seen → length f.parameters ≡ n →
+      w ≡ need_statement f.body → e ≡ b →
+      Ok (measured (n + w) e)
+      ≡ outcome (global_rules ds variables functions) (measured (need_functions (functions_of ds)) b)
+  function-new n w e b fresh count need next =
+      let new : is_function f.name functions ≡ false = ap (is_function f.name) (sym same) ∙ sym fresh in
+      rw (only, new, next) (ap (λ (y : ℕ). Ok (measured y b)) (omega arith))
 
-    new : is_function f.name functions ≡ false
-    new = ap (is_function f.name) (sym same) ∙ sym fresh
+  pub function-signed : (n : ℕ) (after : List Signature) →
+      after ≡ functions ++ record { name = f.name; count = n; place = f.place } ∷ [] → length f.parameters ≡ n →
+      after ≡ functions ++ map signature (functions_of ds)
+  function-signed n after pushed count = pushed ∙ rw (only, count) refl
 
-    pub function-refused : (k m : Measured) (y : Refusal) → Err y ≡ outcome (global_rules es variables after) k →
-        Err y ≡ outcome (global_rules ds variables functions) m
-    function-refused k m y h =
-        rw first (refused-after (unless (not (is_function f.name functions)) (DeclaredTwice f.place))
-        (global_rules es variables (functions ++ signature f ∷ [])) k m y (rw new refl) (rw after_is at h))
+  pub no-variable : (names : List ℕ) → names ≡ names ++ map name_of (variables_of ds)
+  no-variable names = rw only (sym (append-nil names))
 
-    pub function-done : (a e w u : ℕ) (x : Measured) →
-        Ok x ≡ outcome (global_rules es variables after) (measured (need_functions (functions_of es)) e) →
-        a ≡ e → w ≡ need_statement f.body → u ≡ max x.words (n + w) →
-        Ok (measured u x.next)
-        ≡ outcome (global_rules ds variables functions) (measured (need_functions (functions_of ds)) a)
-    function-done a e w u x h ea ew eu =
-        let g = went (global_rules es variables after) (measured (need_functions (functions_of es)) e) x h in
-        let o : global_rules es variables (functions ++ signature f ∷ []) ≡ Ok tt = rw after_is at g.0 in
-        let q : measured u x.next
-        ≡ measured (max (length f.parameters + need_statement f.body) (need_functions (functions_of es))) a =
-        rw (eu, g.1, ea, ew, count) (ap (λ (z : ℕ). measured z e) (omega arith)) in
-        rw (first, new, o) (ap Ok q)
-
-    pub function-variables : (before out : List ℕ) → out ≡ before ++ map name_of (variables_of es) → out
-        ≡ before ++ map name_of (variables_of ds)
-    function-variables before out h = rw first h
-
-    pub function-signatures : (out : List Signature) → out ≡ after ++ map signature (functions_of es) → out
-        ≡ functions ++ map signature (functions_of ds)
-    function-signatures out h = h
-        ∙ rw (after_is, first) (append_assoc functions (signature f ∷ []) (map signature (functions_of es)))
-
--- A variable first: `found` is what the search for its name gave.
-module _ (ds es : List Declaration) (a x : ℕ) (v : ℤ) (names seen : List ℕ) (functions : List Signature)
-    (first : ds ≡ of_a_variable (declare a x v) ∷ es) (same : seen ≡ names) (found : Option ℕ)
+-- A variable alone: `found` is what the search for its name gave.
+module _ (ds : List Declaration) (a x : ℕ) (v : ℤ) (names seen : List ℕ) (functions : List Signature)
+    (only : ds ≡ of_a_variable (declare a x v) ∷ []) (same : seen ≡ names) (found : Option ℕ)
     (sought : found ≡ locate x (reverse seen)) where
   found-is : found ≡ locate x (reverse names)
   found-is = sought ∙ ap (λ (l : List ℕ). locate x (reverse l)) same
@@ -73,35 +59,136 @@ module _ (ds es : List Declaration) (a x : ℕ) (v : ℤ) (names seen : List ℕ
       ≡ outcome (global_rules ds (reverse names) functions) m
   variable-again m p =
       let q : is_some (locate x (reverse names)) ≡ true = ap is_some (sym found-is) ∙ sym p in
-      rw (first, q) refl
+      rw (only, q) refl
 
-  module _ (after : List ℕ) (pushed : after ≡ names ++ x ∷ []) (fresh : false ≡ is_some found) where
-    after-x : reverse after ≡ x ∷ reverse names
-    after-x = ap reverse pushed ∙ reverse-append names (x ∷ [])
+  pub variable-new : (n b : ℕ) → false ≡ is_some found → n ≡ b →
+      Ok (measured 0 n)
+      ≡ outcome (global_rules ds (reverse names) functions) (measured (need_functions (functions_of ds)) b)
+  variable-new n b fresh next =
+      let q : is_some (locate x (reverse names)) ≡ false = ap is_some (sym found-is) ∙ sym fresh in
+      rw (only, q, next) refl
 
-    pub variable-done : (b e : ℕ) (r : Result Measured Refusal) → b ≡ e →
-        r ≡ outcome (global_rules es (reverse after) functions) (measured (need_functions (functions_of es)) e) →
-        r ≡ outcome (global_rules ds (reverse names) functions) (measured (need_functions (functions_of ds)) b)
-    variable-done b e r q h =
-        let t : is_some (locate x (reverse names)) ≡ false = ap is_some (sym found-is) ∙ sym fresh in
-        rw (first, t, q) (rw after-x at h)
+  pub variable-named : (after : List ℕ) → after ≡ names ++ x ∷ [] → after ≡ names ++ map name_of (variables_of ds)
+  variable-named after pushed = pushed ∙ rw only refl
 
-    pub variable-variables : (out : List ℕ) (r : Result Measured Refusal) → IfOk r
-        (λ _. out ≡ after ++ map name_of (variables_of es)) →
-        IfOk r (λ _. out ≡ names ++ map name_of (variables_of ds))
-    variable-variables out r h = go r h
-      where
-        go : (z : Result Measured Refusal) → IfOk z (λ _. out ≡ after ++ map name_of (variables_of es)) →
-            IfOk z (λ _. out ≡ names ++ map name_of (variables_of ds))
-        go (Ok i) k = k ∙ rw (pushed, first) (append_assoc names (x ∷ []) (map name_of (variables_of es)))
-        go (Err y) k = tt
+  pub no-function : functions ≡ functions ++ map signature (functions_of ds)
+  no-function = rw only (sym (append-nil functions))
 
-    pub variable-signatures : (out : List Signature) (r : Result Measured Refusal) → IfOk r
-        (λ _. out ≡ functions ++ map signature (functions_of es)) →
-        IfOk r (λ _. out ≡ functions ++ map signature (functions_of ds))
-    variable-signatures out r h = go r h
-      where
-        go : (z : Result Measured Refusal) → IfOk z (λ _. out ≡ functions ++ map signature (functions_of es)) →
-            IfOk z (λ _. out ≡ functions ++ map signature (functions_of ds))
-        go (Ok i) k = k ∙ rw first refl
-        go (Err y) k = tt
+-- What is left to find after the declarations that were found.
+abbrev pub checked_further : List Record → Measured → ℕ → List ℕ → List Signature → Result Measured Refusal
+checked_further table found left names functions =
+    outcome (global_rules (declarations_at table found.next left) (reverse names) functions)
+    (measured (max found.words (need_functions (functions_of (declarations_at table found.next left))))
+    (found.next + sizes (pieces table found.next left)))
+
+-- The first of several declarations, and the others under what it declares.
+in-order : (d : Declaration) (ds : List Declaration) (names : List ℕ) (functions : List Signature) →
+    global_rules (d ∷ ds) (reverse names) functions
+    ≡ global_rules (d ∷ []) (reverse names) functions
+    ⨟ global_rules ds (reverse (names ++ map name_of (variables_of (d ∷ []))))
+    (functions ++ map signature (functions_of (d ∷ [])))
+in-order (of_a_variable (declare a x v)) ds names functions =
+    rw (
+      last (unless (not (is_some (locate x (reverse names)))) (DeclaredTwice a)),
+      reverse-append names (x ∷ []),
+      append-nil functions,
+    ) refl
+in-order (of_a_function f) ds names functions =
+    rw (last (unless (not (is_function f.name functions)) (DeclaredTwice f.place)), append-nil names) refl
+
+need-in-order : (d : Declaration) (ds : List Declaration) →
+    need_functions (functions_of (d ∷ ds))
+    ≡ max (need_functions (functions_of (d ∷ []))) (need_functions (functions_of ds))
+need-in-order (of_a_variable v) ds = omega arith
+need-in-order (of_a_function f) ds = omega arith
+
+variables-in-order : (d : Declaration) (ds : List Declaration) (names : List ℕ) →
+    (names ++ map name_of (variables_of (d ∷ []))) ++ map name_of (variables_of ds)
+    ≡ names ++ map name_of (variables_of (d ∷ ds))
+variables-in-order (of_a_variable v) ds names = append_assoc names (name_of v ∷ []) (map name_of (variables_of ds))
+variables-in-order (of_a_function f) ds names =
+    ap (λ (l : List ℕ). l ++ map name_of (variables_of ds)) (append-nil names)
+
+signatures-in-order : (d : Declaration) (ds : List Declaration) (functions : List Signature) →
+    (functions ++ map signature (functions_of (d ∷ []))) ++ map signature (functions_of ds)
+    ≡ functions ++ map signature (functions_of (d ∷ ds))
+signatures-in-order (of_a_variable v) ds functions =
+    ap (λ (l : List Signature). l ++ map signature (functions_of ds)) (append-nil functions)
+signatures-in-order (of_a_function f) ds functions =
+    append_assoc functions (signature f ∷ []) (map signature (functions_of ds))
+
+module _ (table : List Record) (found : Measured) (n : ℕ) (k : 0 < n)
+    (parts : Parts table found.next n DeclarationSort) (names : List ℕ) (functions : List Signature) where
+  abbrev one : List Declaration
+  one = declarations_at table found.next 1
+
+  abbrev all : List Declaration
+  all = declarations_at table found.next n
+
+  abbrev declared_first : Declaration
+  declared_first = make_declaration (node_kind (tree_at table found.next)) (tree_at table found.next)
+
+  module _ (m : ℕ) (e : m ≡ found.next + sizes (pieces table found.next 1)) where
+    abbrev others : List Declaration
+    others = declarations_at table m (n - 1)
+
+    alone : one ≡ declared_first ∷ []
+    alone = ap declarations_of (first table found.next n m DeclarationSort k parts e).alone
+
+    both : all ≡ declared_first ∷ others
+    both = ap declarations_of (first table found.next n m DeclarationSort k parts e).parts
+
+    split : global_rules all (reverse names) functions
+        ≡ global_rules one (reverse names) functions
+        ⨟ global_rules others (reverse (names ++ map name_of (variables_of one)))
+        (functions ++ map signature (functions_of one))
+    split =
+        ap (λ (l : List Declaration). global_rules l (reverse names) functions) both
+        ∙ (in-order declared_first others names functions
+        ∙ ap (λ (l : List Declaration). global_rules l (reverse names) functions
+        ⨟ global_rules others (reverse (names ++ map name_of (variables_of l)))
+        (functions ++ map signature (functions_of l))) (sym alone))
+
+    need-split : need_functions (functions_of all)
+        ≡ max (need_functions (functions_of one)) (need_functions (functions_of others))
+    need-split =
+        ap (λ (l : List Declaration). need_functions (functions_of l)) both
+        ∙ (need-in-order declared_first others
+        ∙ ap (λ (l : List Declaration). max (need_functions (functions_of l)) (need_functions (functions_of others)))
+        (sym alone))
+
+    pub variables-done : (after : List ℕ) → after ≡ names ++ map name_of (variables_of one) →
+        after ++ map name_of (variables_of others) ≡ names ++ map name_of (variables_of all)
+    variables-done after h =
+        ap (λ (l : List ℕ). l ++ map name_of (variables_of others))
+        (h ∙ ap (λ (l : List Declaration). names ++ map name_of (variables_of l)) alone)
+        ∙ (variables-in-order declared_first others names
+        ∙ ap (λ (l : List Declaration). names ++ map name_of (variables_of l)) (sym both))
+
+    pub signatures-done : (after : List Signature) → after ≡ functions ++ map signature (functions_of one) →
+        after ++ map signature (functions_of others) ≡ functions ++ map signature (functions_of all)
+    signatures-done after h =
+        ap (λ (l : List Signature). l ++ map signature (functions_of others))
+        (h ∙ ap (λ (l : List Declaration). functions ++ map signature (functions_of l)) alone)
+        ∙ (signatures-in-order declared_first others functions
+        ∙ ap (λ (l : List Declaration). functions ++ map signature (functions_of l)) (sym both))
+
+  pub globals-refused : (y : Refusal) → Err y ≡ checked_globals table 1 found.next names functions →
+      Err y ≡ checked_further table found n names functions
+  globals-refused y h =
+      rw (split (found.next + sizes (pieces table found.next 1)) refl)
+      (refused (global_rules one (reverse names) functions) _ _ _ y h)
+
+  pub globals-done : (x after : Measured) (more : List ℕ) (called : List Signature) →
+      Ok x ≡ checked_globals table 1 found.next names functions →
+      more ≡ names ++ map name_of (variables_of one) → called ≡ functions ++ map signature (functions_of one) →
+      after.words ≡ max x.words found.words → after.next ≡ x.next →
+      checked_further table after (n - 1) more called ≡ checked_further table found n names functions
+  globals-done x after more called h em ec words next =
+      let w = went (global_rules one (reverse names) functions) _ x h in
+      let e : after.next ≡ found.next + sizes (pieces table found.next 1) = next ∙ ap (λ (z : Measured). z.next) w.1 in
+      let p = first table found.next n after.next DeclarationSort k parts e in
+      let need : x.words ≡ need_functions (functions_of one) = ap (λ (z : Measured). z.words) w.1 in
+      let need : max after.words (need_functions (functions_of (others after.next e)))
+      ≡ max found.words (need_functions (functions_of all)) = omega (arith, words, need, need-split after.next e) in
+      rw (split after.next e, w.0, ← em, ← ec, p.whole, ← need) refl

@@ -1,7 +1,9 @@
 pub mod Searches
+pub mod Several
 pub mod Outcomes
 pub mod Rules
 pub mod Scopes
+pub mod Blocks
 pub mod Globals
 pub mod Functions
 pub mod Programs

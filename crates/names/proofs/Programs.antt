@@ -1,73 +1,115 @@
 -- The rules of a whole program, one pass after another.
-use Rattle.std.proofs.Common.{◌≡◌, ℕ, leb, List, [], ◌++◌, map, reverse, Ok, Err, refl, ap, ◌∙◌}
+use Rattle.std.proofs.Common.{◌≡◌, ℕ, ◌<◌, leb, max, List, [], ◌++◌, map, reverse, length, get_or, Ok, Err, sym, refl, ap, ◌∙◌, arith}
+use lib.ListN.{length-map}
+use Rattle.script.specs.declared.rows.Sort.TheVariants.{Program as ProgramSort}
+use Rattle.script.specs.declared.record.Record.{Record}
 use Rattle.script.specs.declared.refusal.Refusal.{Refusal}
 use Rattle.script.specs.declared.refusal.Refusal.TheVariants.{FrameNeed}
 use Rattle.syntax.specs.Syntax.{Program, Declaration, name_of, variables_of, functions_of, globals_of, global_names}
+use Rattle.syntax.specs.Trees.{tree_at, no_record, Sound}
+use Rattle.syntax.specs.Typed.{statement_at, declarations_at, program_of}
+use Rattle.syntax.proofs.Declarations.{programmed}
 use Rattle.syntax.proofs.Statements.{bound}
+use Rattle.names.specs.declared.frame.Measured.{Measured}
 use Rattle.names.specs.declared.signature.Signature.{Signature}
-use Rattle.names.specs.Need.{largest_need}
+use Rattle.names.specs.Need.{largest_need, need_statement, need_functions}
 use Rattle.names.specs.Names.{Answer, ◌⨟◌, unless, signature, global_rules, function_rules, statement_rules, name_rules}
-use Rattle.names.specs.Passes.{outcome}
-use Rattle.names.proofs.Outcomes.{refused}
+use Rattle.names.specs.Passes.{outcome, checked_globals}
+use Rattle.names.specs.Tables.{main_at, checked_names}
+use Rattle.names.proofs.Outcomes.{refused, regroup, went}
 
 -- The global names, oldest first and newest first.
 pub global-names : (p : Program) → reverse (map name_of (globals_of p)) ≡ global_names p
 global-names p = bound (globals_of p) []
 
-regroup : (a b c : Answer) → a ⨟ b ⨟ c ≡ (a ⨟ b) ⨟ c
-regroup (Ok u) b c = refl
-regroup (Err e) b c = refl
+-- What the pass over the global declarations of a program finds: their names, signatures and largest need.
+pub record Found (p : Program) (found : Measured) (globals : List ℕ) (functions : List Signature) : Type 0 where
+  pub fine : global_rules p.declarations [] [] ≡ Ok tt
+  pub variables : globals ≡ map name_of (globals_of p)
+  pub signatures : functions ≡ map signature (functions_of p.declarations)
+  pub need : found.words ≡ need_functions (functions_of p.declarations)
 
--- What the pass over the global declarations found, from empty stacks.
-module _ (p : Program) (ds : List Declaration) (is : ds ≡ p.declarations) (globals : List ℕ)
-    (functions : List Signature)
-    (no_name : globals ≡ []) (no-function : functions ≡ []) where
-  pub global-rules : global_rules ds (reverse globals) functions ≡ global_rules p.declarations [] []
-  global-rules = rw (is, no_name, no-function) refl
+-- A table that has a program, and that pass over it from two empty stacks.
+module _ (table : List Record) (some : 0 < length table) (sound : Sound (tree_at table 0) ProgramSort) where
+  abbrev many : ℕ
+  many = (get_or table 0 no_record).a
 
-  pub variables-are : (out : List ℕ) → out ≡ globals ++ map name_of (variables_of ds) → out ≡ map name_of (globals_of p)
-  variables-are out e = e ∙ rw (is, no_name) refl
+  abbrev ds : List Declaration
+  ds = declarations_at table 1 many
 
-  pub signatures-are : (out : List Signature) → out ≡ functions ++ map signature (functions_of ds) → out
-      ≡ map signature (functions_of p.declarations)
-  signatures-are out e = e ∙ rw (is, no-function) refl
+  are-declared : ds ≡ (program_of table).declarations
+  are-declared =
+      ap (λ (q : Program). q.declarations)
+      (sym (programmed table many (main_at table) no_record some sound refl refl).is)
+
+  pub need-of-main : (m : ℕ) → m ≡ main_at table →
+      need_statement (statement_at table m) ≡ need_statement (program_of table).main
+  need-of-main m e =
+      ap (λ (q : Program). need_statement q.main) (sym (programmed table many m no_record some sound refl e).is)
+
+  module _ (names : List ℕ) (called : List Signature) (no_name : names ≡ []) (no-function : called ≡ []) where
+    rules : global_rules ds (reverse names) called ≡ global_rules (program_of table).declarations [] []
+    rules = rw (are-declared, no_name, no-function) refl
+
+    pub globals-refused : (y : Refusal) → Err y ≡ checked_globals table many 1 names called → Err y ≡ checked_names table
+    globals-refused y h = refused (global_rules (program_of table).declarations [] []) _ _ _ y (rw rules at h)
+
+    pub globals-found : (found : Measured) (globals : List ℕ) (functions : List Signature) →
+        Ok found ≡ checked_globals table many 1 names called → globals ≡ names ++ map name_of (variables_of ds) →
+        functions ≡ called ++ map signature (functions_of ds) → Found (program_of table) found globals functions
+    globals-found found globals functions h eg ef =
+        let w = went (global_rules ds (reverse names) called) _ found h in
+        record {
+          fine = sym rules ∙ w.0;
+          variables = eg ∙ rw (are-declared, no_name) refl;
+          signatures = ef ∙ rw (are-declared, no-function) refl;
+          need = ap (λ (x : Measured). x.words) w.1
+              ∙ ap (λ (l : List Declaration). need_functions (functions_of l)) are-declared;
+        }
 
 -- The rules of functions and statement, under the names and signatures that were found.
 abbrev body_rules : Program → List ℕ → List Signature → Answer
 body_rules p globals functions =
     function_rules globals functions (functions_of p.declarations) ⨟ statement_rules globals functions p.main []
 
-module _ {A : Type 0} (p : Program) (m : A) where
-  pub globals-refused : {B : Type 0} (a : Answer) → a ≡ global_rules p.declarations [] [] → (n : B) (y : Refusal) →
-      Err y ≡ outcome a n → Err y ≡ outcome (name_rules p) m
-  globals-refused a e n y h = refused (global_rules p.declarations [] []) _ n m y (rw e at h)
+module _ (table : List Record) (found : Measured) (globals : List ℕ) (functions : List Signature)
+    (f : Found (program_of table) found globals functions) where
+  abbrev p : Program
+  p = program_of table
 
-  module _ (fine : global_rules p.declarations [] [] ≡ Ok tt) (globals : List ℕ) (functions : List Signature)
-      (variables : globals ≡ map name_of (globals_of p))
-      (signatures : functions ≡ map signature (functions_of p.declarations)) where
-    found : Answer
-    found = body_rules p (reverse globals) functions
+  bodies : Answer
+  bodies = body_rules p (reverse globals) functions
 
-    remaining : name_rules p ≡ global_rules p.declarations [] [] ⨟ found ⨟ unless (leb (largest_need p) 100) FrameNeed
-    unfolding found
-    remaining =
-        let gs : List ℕ = global_names p in
-        let fs : List Signature = map signature (functions_of p.declarations) in
-        rw (signatures, variables, global-names p)
-        (ap (λ (z : Answer). global_rules p.declarations [] [] ⨟ z)
-        (regroup (function_rules gs fs (functions_of p.declarations)) (statement_rules gs fs p.main [])
-        (unless (leb (largest_need p) 100) FrameNeed)))
+  remaining : name_rules p ≡ global_rules p.declarations [] [] ⨟ bodies ⨟ unless (leb (largest_need p) 100) FrameNeed
+  unfolding bodies
+  remaining =
+      let gs : List ℕ = global_names p in
+      let fs : List Signature = map signature (functions_of p.declarations) in
+      rw (f.signatures, f.variables, global-names p)
+      (ap (λ (z : Answer). global_rules p.declarations [] [] ⨟ z)
+      (regroup (function_rules gs fs (functions_of p.declarations)) (statement_rules gs fs p.main [])
+      (unless (leb (largest_need p) 100) FrameNeed)))
 
-    pub bodies-refused : {B : Type 0} (n : B) (y : Refusal) → Err y
-        ≡ outcome (body_rules p (reverse globals) functions) n → Err y ≡ outcome (name_rules p) m
-    unfolding found
-    bodies-refused n y h = rw (remaining, fine) (refused found (unless (leb (largest_need p) 100) FrameNeed) n m y h)
+  pub bodies-refused : {B : Type 0} (n : B) (y : Refusal) → Err y ≡ outcome (body_rules p (reverse globals) functions) n →
+      Err y ≡ checked_names table
+  unfolding bodies
+  bodies-refused n y h = rw (remaining, f.fine) (refused bodies (unless (leb (largest_need p) 100) FrameNeed) n _ y h)
 
-    module _ (bodies : body_rules p (reverse globals) functions ≡ Ok tt) (need : ℕ) (is : need ≡ largest_need p) where
-      pub need-refused : (y : Refusal) → Err y ≡ unless (leb need 100) FrameNeed → Err y ≡ outcome (name_rules p) m
-      unfolding found
-      need-refused y h = rw (remaining, fine, bodies, ← is, ← h) refl
+  module _ (passed : body_rules p (reverse globals) functions ≡ Ok tt) (own need : ℕ)
+      (own-is : own ≡ need_statement p.main) (need-is : need ≡ max own found.words) where
+    largest : need ≡ largest_need p
+    largest = omega (arith, own-is, need-is, f.need)
 
-      pub accepted : Ok tt ≡ unless (leb need 100) FrameNeed → Ok m ≡ outcome (name_rules p) m
-      unfolding found
-      accepted h = rw (remaining, fine, bodies, ← is, ← h) refl
+    pub need-refused : (y : Refusal) → Err y ≡ unless (leb need 100) FrameNeed → Err y ≡ checked_names table
+    unfolding bodies
+    need-refused y h = rw (remaining, f.fine, passed, ← largest, ← h) refl
+
+    pub accepted : (main : ℕ) → main ≡ main_at table → Ok tt ≡ unless (leb need 100) FrameNeed →
+        Ok (record { globals = length globals; functions = length functions; need = need; main = main })
+        ≡ checked_names table
+    unfolding bodies
+    accepted main e h =
+        let vs : length globals ≡ length (globals_of p) = ap length f.variables ∙ length-map (globals_of p) name_of in
+        let fs : length functions ≡ length (functions_of p.declarations) =
+        ap length f.signatures ∙ length-map (functions_of p.declarations) signature in
+        rw (remaining, f.fine, passed, ← largest, ← h, vs, fs, e) refl

@@ -1,6 +1,8 @@
 -- The names in scope, one local after another, and dropped again.
-use Rattle.std.proofs.Common.{◌≡◌, ℕ, not, List, [], ◌∷◌, ◌++◌, map, reverse, length, take, ℤ, IfOk, Ok, Err, Result, sym, refl, ap, ◌∙◌, append_assoc}
+use Rattle.std.proofs.Common.{◌≡◌, ℕ, not, List, [], ◌∷◌, ◌++◌, map, reverse, length, take, ℤ, Ok, Err, Result, sym, refl, ap, ◌∙◌, append_assoc}
 use Rattle.std.proofs.lemmas.List.{reverse-append, take_at}
+use Rattle.stack.specs.declared.Stack.{Stack}
+use Rattle.stack.specs.Store.{contents}
 use Rattle.script.specs.declared.refusal.Refusal.{Refusal}
 use Rattle.script.specs.declared.refusal.Refusal.TheVariants.{DeclaredTwice}
 use Rattle.syntax.specs.Syntax.{VariableDeclaration, declare, Statement, Statements, name_of, bind_names}
@@ -9,6 +11,9 @@ use Rattle.names.specs.declared.signature.Signature.{Signature}
 use Rattle.names.specs.Names.{Answer, unless, local_rules, statement_rules, block_rules, declared}
 use Rattle.names.specs.Passes.{outcome}
 use Rattle.names.proofs.Outcomes.{refused-own, on}
+
+pub empty : {T : Type 0} (s : Stack T) → s.height ≡ 0 → contents s ≡ []
+empty s h = ap (λ (n : ℕ). take n s.words.now) h
 
 -- A declaration of x at a place, and others after it: `seen` are the names that the search went through.
 module _ (globals : List ℕ) (ds es : List VariableDeclaration) (a x : ℕ) (v : ℤ) (scope seen : List ℕ)
@@ -19,22 +24,17 @@ module _ (globals : List ℕ) (ds es : List VariableDeclaration) (a x : ℕ) (v 
   pub local-again : (m : ℕ) (y : Refusal) → Err y ≡ new_rule → Err y ≡ outcome (local_rules globals ds (reverse scope)) m
   local-again m y p = rw (first, ← same) (refused-own new_rule (local_rules globals es (x ∷ reverse seen)) m y p)
 
-  module _ (after : List ℕ) (r : Result ℕ Refusal) (pushed : after ≡ scope ++ x ∷ []) where
-    pub local-new : (n m : ℕ) → Ok tt ≡ new_rule → n ≡ m → r ≡ outcome (local_rules globals es (reverse after)) n →
-        r ≡ outcome (local_rules globals ds (reverse scope)) m
-    local-new n m p q h =
+  module _ (after : List ℕ) (pushed : after ≡ scope ++ x ∷ []) where
+    pub local-new : (m : ℕ) → Ok tt ≡ new_rule →
+        outcome (local_rules globals es (reverse after)) m ≡ outcome (local_rules globals ds (reverse scope)) m
+    local-new m p =
         let e : reverse after ≡ x ∷ reverse seen = ap reverse pushed ∙ (reverse-append scope (x ∷ []) ∙ rw same refl) in
-        let h' : r ≡ outcome (local_rules globals es (x ∷ reverse seen)) n = rw e at h in
-        rw (first, ← same) (on new_rule (local_rules globals es (x ∷ reverse seen)) n m r (sym p) q h')
+        rw (first, ← same, e)
+        (on new_rule (local_rules globals es (x ∷ reverse seen)) m m
+        (outcome (local_rules globals es (x ∷ reverse seen)) m) (sym p) refl refl)
 
-    pub one_more : (out : List ℕ) → IfOk r (λ _. out ≡ after ++ map name_of es) → IfOk r
-        (λ _. out ≡ scope ++ map name_of ds)
-    one_more out h = go r h
-      where
-        go : (z : Result ℕ Refusal) → IfOk z (λ _. out ≡ after ++ map name_of es) → IfOk z
-            (λ _. out ≡ scope ++ map name_of ds)
-        go (Ok i) k = k ∙ rw (pushed, first) (append_assoc scope (x ∷ []) (map name_of es))
-        go (Err y) k = tt
+    pub one_more : after ++ map name_of es ≡ scope ++ map name_of ds
+    one_more = rw (pushed, first) (append_assoc scope (x ∷ []) (map name_of es))
 
 -- What is left of the scope when a block's locals are dropped.
 pub dropped : (scope ys inner seen out : List ℕ) (n : ℕ) → length scope ≡ n → inner ≡ scope ++ ys → seen ≡ inner → out

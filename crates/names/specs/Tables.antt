@@ -8,7 +8,7 @@ use Rattle.syntax.specs.Syntax.{functions_of, globals_of}
 use Rattle.syntax.specs.Trees.{pieces, sizes, no_record}
 use Rattle.syntax.specs.Typed.{program_of}
 use Rattle.names.specs.declared.summary.Summary.{Summary}
-use Rattle.names.specs.declared.signature.Signature.{Signature}
+use Rattle.names.specs.declared.context.Context.{Context}
 use Rattle.names.specs.Need.{largest_need}
 use Rattle.names.specs.Names.{name_rules, function_rules, statement_rules, ◌⨟◌}
 use Rattle.names.specs.Passes.{outcome}
@@ -35,9 +35,9 @@ abbrev pub table_rules : List Record → Result Summary Refusal
 table_rules table = and_then (shape table) (λ n. checked_names table)
 
 -- All records after the global declarations: the functions, then the program's statement.
-abbrev pub checked_bodies : List Record → List ℕ → List Signature → Result ℕ Refusal
-checked_bodies table globals functions =
+abbrev pub checked_bodies : Context → Result ℕ Refusal
+checked_bodies c =
     outcome
-    (function_rules (reverse globals) functions (functions_of (program_of table).declarations)
-    ⨟ statement_rules (reverse globals) functions (program_of table).main [])
-    (main_at table)
+    (function_rules (reverse c.globals.now) c.functions.now (functions_of (program_of c.table.now).declarations)
+    ⨟ statement_rules (reverse c.globals.now) c.functions.now (program_of c.table.now).main [])
+    (main_at c.table.now)

@@ -4,40 +4,35 @@ ghost use Rattle.stack.specs.Store.{contents, capacity};
 ghost use Rattle.script.specs.declared.rows.Sort.TheVariants.{Program};
 ghost use Rattle.script.specs.Shape.{shape};
 ghost use Rattle.syntax.specs.Syntax.{name_of, globals_of, functions_of};
-ghost use Rattle.syntax.specs.Trees.{tree_at, Sound};
+ghost use Rattle.syntax.specs.Trees.{tree_at, Sound, Part};
 ghost use Rattle.syntax.specs.Typed.{program_of};
 ghost use Rattle.script.specs.declared.refusal.Refusal.TheVariants.{FrameNeed};
 ghost use Rattle.names.specs.Names.{unless, signature as signature_of};
 ghost use Rattle.names.specs.Laws.{RightlyAnswered};
 ghost use Rattle.names.specs.Tables.{checked_bodies, checked_names, table_rules};
 
+use crate::context::Context;
 use crate::frame::statement as measure;
-use crate::program::{bodies, declarations};
+use crate::program::declarations;
 use crate::signature::Signature;
-use crate::statements::statement;
 use crate::summary::Summary;
 use script::shape::check_shape;
 use script::{Record, Refusal};
 use stack::Stack;
 
-// All records after the global declarations: the functions, then the program's statement, whose index it gives.
-// Each name in scope has a record of its own, so there is room for all.
-fn check_bodies(
-    table: &[Record],
-    globals: &[u16],
-    functions: &[Signature],
-) -> Result<usize, Refusal>
-    requires within { (0 < length table.now) × (length table.now ≤ 1024) }
-    requires sound { Sound (tree_at table.now 0) Program }
-    ensures { result ≡ checked_bodies table.now globals.now functions.now }
-{
-    let mut names: [u16; 1024] = [0; 1024];
-    let mut scope = Stack::new(&mut names, 0);
-    let count = table[0].a as usize;
-    let main = bodies(table, count, 1, globals, functions, &mut scope)?;
-    scope.cut(0);
-    statement(table, main, globals, functions, &mut scope)?;
-    Ok(main)
+impl Context<'_> {
+    // All records after the global declarations: the functions, then the program's statement, whose index it gives.
+    // Each name in scope has a record of its own, so there is room for all.
+    fn check_bodies(&self) -> Result<usize, Refusal>
+        requires program { Part self.now.table.now 0 Program }
+        requires few { length self.now.table.now ≤ 1024 }
+        ensures { result ≡ checked_bodies self.now }
+    {
+        let mut names: [u16; 1024] = [0; 1024];
+        let main = self.bodies(self.table[0].a as usize, 1, &mut names)?;
+        self.statement(main, &mut Stack::new(&mut names, 0))?;
+        Ok(main)
+    }
 }
 
 // A frame uses at most 100 words.
@@ -73,12 +68,17 @@ pub fn check_names(
     functions.cut(0);
     let count = table[0].a as usize;
     let found = declarations(table, count, 1, globals, functions)?;
-    let main = check_bodies(table, globals.live(), functions.live())?;
+    let context = Context {
+        table,
+        globals: globals.live(),
+        functions: functions.live(),
+    };
+    let main = context.check_bodies()?;
     let need = measure(table, main).words.max(found.words);
     check_need(need)?;
     Ok(Summary {
-        globals: globals.live().len(),
-        functions: functions.live().len(),
+        globals: context.globals.len(),
+        functions: context.functions.len(),
         need,
         main,
     })
@@ -100,11 +100,7 @@ pub fn check_table(table: &[Record]) -> Result<Summary, Refusal>
 {
     check_sound(table)?;
     let mut names: [u16; 128] = [0; 128];
-    let mut signatures = [Signature {
-        name: 0,
-        count: 0,
-        place: 0,
-    }; 128];
+    let mut signatures = [Signature::default(); 128];
     let mut globals = Stack::new(&mut names, 0);
     let mut functions = Stack::new(&mut signatures, 0);
     check_names(table, &mut globals, &mut functions)
@@ -129,13 +125,9 @@ mod tests {
             node(2, 7, 0),
             node(1, 0, 2),
         ];
-        match check_table(&table) {
-            Ok(summary) => {
-                assert!(rt; summary.globals == 1 && summary.need == 2 && summary.main == 2);
-                Ok(())
-            },
-            Err(_) => Err(Fail::new("refused")),
-        }
+        let summary = check_table(&table).map_err(|_| Fail::new("refused"))?;
+        assert_eq!(rt; (summary.globals, summary.need, summary.main), (1, 2, 2));
+        Ok(())
     }
 
     #[test]
@@ -147,12 +139,7 @@ mod tests {
             node(16, 0, 0),
             node(2, 9, 0),
         ];
-        match check_table(&table) {
-            Err(Refusal::DeclaredTwice(at)) => {
-                assert_eq!(rt; at, 2);
-                Ok(())
-            },
-            _ => Err(Fail::new("not refused for its names")),
-        }
+        assert_eq!(rt; check_table(&table), Err(Refusal::DeclaredTwice(2)));
+        Ok(())
     }
 }

@@ -13,7 +13,7 @@ pub mod signature;
 mod statements;
 pub mod summary;
 
-pub use context::Context;
 pub use check::{check_names, check_table};
+pub use context::Context;
 pub use signature::Signature;
 pub use summary::Summary;

@@ -1,41 +1,28 @@
 // What is declared: names in scope, and functions.
-ghost use Rattle.std.specs.Prelude.{◌≡◌, not, reverse, ◌==◌};
-ghost use Rattle.script.specs.declared.refusal.Refusal.TheVariants.{DeclaredTwice, ArgumentCount};
-ghost use Rattle.names.specs.Names.{call_rule, declared, is_function, unless};
+ghost use Rattle.std.specs.Prelude.{◌≡◌, not, ◌==◌};
+ghost use Rattle.std.specs.Option.{option_copied};
+ghost use Rattle.script.specs.declared.refusal.Refusal.TheVariants.{Undeclared, DeclaredTwice, ArgumentCount};
+ghost use Rattle.names.specs.Names.{call_rule, is_function, unless};
+ghost use Rattle.names.specs.Search.{signature_named};
+ghost use Rattle.names.specs.Passes.{known};
 
+use crate::context::Context;
 use crate::find::find;
 use crate::signature::Signature;
 use script::Refusal;
 
-// Is a name one of the scope's or of the globals'.
-pub fn is_declared(globals: &[u16], scope: &[u16], name: u16) -> bool
-    ensures { result ≡ declared (reverse globals.now) name (reverse scope.now) }
+// The first function of that name.
+fn function_named(functions: &[Signature], name: u16) -> Option<&Signature>
+    ensures { option_copied result ≡ signature_named name functions.now }
 {
-    find(scope, name).is_some() || find(globals, name).is_some()
+    functions.iter().find(|f| f.name == name)
 }
 
 // Is there a function of that name.
 pub fn is_function(functions: &[Signature], name: u16) -> bool
     ensures { result ≡ is_function name functions.now }
 {
-    for function in functions {
-        if function.name == name {
-            return true;
-        }
-    }
-    false
-}
-
-// A name that is declared is new.
-pub fn check_new(name: u16, at: usize, globals: &[u16], scope: &[u16]) -> Result<(), Refusal>
-    ensures { result ≡ unless (not (declared (reverse globals.now) name (reverse scope.now)))
-        (DeclaredTwice at) }
-{
-    if is_declared(globals, scope, name) {
-        Err(Refusal::DeclaredTwice(at))
-    } else {
-        Ok(())
-    }
+    function_named(functions, name).is_some()
 }
 
 // A call has as many arguments as its function has parameters.
@@ -49,19 +36,41 @@ fn check_count(count: usize, parameters: usize, place: usize) -> Result<(), Refu
     }
 }
 
-// The rule of a call at a place: its function is declared, and has as many parameters.
-pub fn check_call(
-    functions: &[Signature],
-    name: u16,
-    count: usize,
-    place: usize,
-) -> Result<(), Refusal>
-    ensures { result ≡ call_rule name functions.now count place }
-{
-    for function in functions {
-        if function.name == name {
-            return check_count(count, function.count, place);
+impl Context<'_> {
+    // Is a name one of the scope's or of the globals'.
+    fn is_declared(&self, name: u16, scope: &[u16]) -> bool
+        ensures { result ≡ known self.now name scope.now }
+    {
+        find(scope, name).is_some() || find(self.globals, name).is_some()
+    }
+
+    // A name that is declared is new.
+    pub(crate) fn check_new(&self, name: u16, at: usize, scope: &[u16]) -> Result<(), Refusal>
+        ensures { result ≡ unless (not (known self.now name scope.now)) (DeclaredTwice at) }
+    {
+        if self.is_declared(name, scope) {
+            Err(Refusal::DeclaredTwice(at))
+        } else {
+            Ok(())
         }
     }
-    Err(Refusal::Undeclared(place))
+
+    // A name that is used is declared.
+    pub(crate) fn check_use(&self, name: u16, at: usize, scope: &[u16]) -> Result<(), Refusal>
+        ensures { result ≡ unless (known self.now name scope.now) (Undeclared at) }
+    {
+        if self.is_declared(name, scope) {
+            Ok(())
+        } else {
+            Err(Refusal::Undeclared(at))
+        }
+    }
+
+    // The rule of a call at a place: its function is declared, and has as many parameters.
+    pub(crate) fn check_call(&self, name: u16, count: usize, place: usize) -> Result<(), Refusal>
+        ensures { result ≡ call_rule name self.now.functions.now count place }
+    {
+        let function = function_named(self.functions, name).ok_or(Refusal::Undeclared(place))?;
+        check_count(count, function.count, place)
+    }
 }

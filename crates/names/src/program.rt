@@ -1,47 +1,42 @@
 // The name rules of a whole table.
-ghost use Rattle.std.specs.Prelude.{◌≡◌, ◌+◌, ◌<◌, ◌≤◌, ◌++◌, map, length, replicate, OnOk};
+ghost use Rattle.std.specs.Prelude.{◌≡◌, ◌+◌, ◌<◌, ◌≤◌, ◌++◌, map, length, OnOk};
 ghost use Rattle.stack.specs.Store.{contents, capacity};
 ghost use Rattle.script.specs.declared.rows.Sort.TheVariants.{Declaration};
 ghost use Rattle.syntax.specs.Syntax.{name_of, variables_of, functions_of};
-ghost use Rattle.syntax.specs.Trees.{pieces, Sounds};
 ghost use Rattle.syntax.specs.Typed.{declarations_at};
 ghost use Rattle.names.specs.Names.{signature as signature_of};
-ghost use Rattle.names.specs.Passes.{checked_globals, checked_functions};
+ghost use Rattle.names.specs.Parts.{Parts};
+ghost use Rattle.names.specs.Passes.{checked_globals, checked_functions, Grown};
 
+use crate::context::Context;
 use crate::find::find;
 use crate::frame::{Measured, statement as measure};
 use crate::lookups::is_function;
 use crate::signature::Signature;
-use crate::statements::{locals, statement};
 use script::rows::NodeKind;
 use script::{Record, Refusal};
 use stack::Stack;
 use syntax::parts::{node_kind, part_count};
 
-// `count` global declarations from `at` on: their names and signatures go onto the stacks.
-pub fn declarations(
+// The global declaration at `at`: its name or its signature goes onto a stack.
+// The stacks stay two parameters: a struct of both would be made in `check_names` and taken apart there again.
+fn declaration(
     table: &[Record],
-    count: usize,
     at: usize,
     globals: &mut Stack<'_, u16>,
     functions: &mut Stack<'_, Signature>,
 ) -> Result<Measured, Refusal>
-    requires within { at ≤ length table.now }
-    requires sound { Sounds (pieces table.now at count) (replicate count Declaration) }
-    requires names { globals.old.height + count ≤ capacity globals.old }
-    requires calls { functions.old.height + count ≤ capacity functions.old }
+    requires parts { Parts table.now at 1 Declaration }
+    requires names { globals.old.height < capacity globals.old }
+    requires calls { functions.old.height < capacity functions.old }
     ensures answer { result
-        ≡ checked_globals table.now count at (contents globals.old)
-        (contents functions.old) }
+        ≡ checked_globals table.now 1 at (contents globals.old) (contents functions.old) }
     ensures variables { OnOk result (contents globals.new
-        ≡ contents globals.old ++ map name_of (variables_of (declarations_at table.now at count))) }
+        ≡ contents globals.old ++ map name_of (variables_of (declarations_at table.now at 1))) }
     ensures signatures { OnOk result (contents functions.new
-        ≡ contents functions.old ++ map signature_of (functions_of (declarations_at table.now at count))) }
-    ensures lenders { (globals.new.words.ghost_name ≡ globals.old.words.ghost_name) × (functions.new.words.ghost_name ≡ functions.old.words.ghost_name) }
+        ≡ contents functions.old ++ map signature_of (functions_of (declarations_at table.now at 1))) }
+    ensures grown { Grown globals.old globals.new × Grown functions.old functions.new }
 {
-    if count == 0 {
-        return Ok(Measured { words: 0, next: at });
-    }
     let node = table[at];
     match node_kind(node) {
         NodeKind::Function => {
@@ -55,10 +50,9 @@ pub fn declarations(
                 place: at,
             });
             let body = measure(table, at + 1 + parameters);
-            let rest = declarations(table, count - 1, body.next, globals, functions)?;
             Ok(Measured {
-                words: rest.words.max(parameters + body.words),
-                next: rest.next,
+                words: parameters + body.words,
+                next: body.next,
             })
         }
         _ => {
@@ -66,38 +60,76 @@ pub fn declarations(
                 return Err(Refusal::DeclaredTwice(at));
             }
             globals.push(node.a);
-            declarations(table, count - 1, at + 1, globals, functions)
+            Ok(Measured {
+                words: 0,
+                next: at + 1,
+            })
         }
     }
 }
 
-// Parameters and body of each function among `count` global declarations from `at` on, in order.
-pub fn bodies(
+// `count` global declarations from `at` on: their names and signatures go onto the stacks.
+pub fn declarations(
     table: &[Record],
     count: usize,
     at: usize,
-    globals: &[u16],
-    functions: &[Signature],
-    scope: &mut Stack<'_, u16>,
-) -> Result<usize, Refusal>
-    requires within { at ≤ length table.now }
-    requires sound { Sounds (pieces table.now at count) (replicate count Declaration) }
-    requires room { length table.now ≤ capacity scope.old }
+    globals: &mut Stack<'_, u16>,
+    functions: &mut Stack<'_, Signature>,
+) -> Result<Measured, Refusal>
+    requires parts { Parts table.now at count Declaration }
+    requires names { globals.old.height + count ≤ capacity globals.old }
+    requires calls { functions.old.height + count ≤ capacity functions.old }
     ensures answer { result
-        ≡ checked_functions table.now globals.now functions.now count at }
-    ensures store { capacity scope.new ≡ capacity scope.old }
+        ≡ checked_globals table.now count at (contents globals.old)
+        (contents functions.old) }
+    ensures variables { OnOk result (contents globals.new
+        ≡ contents globals.old ++ map name_of (variables_of (declarations_at table.now at count))) }
+    ensures signatures { OnOk result (contents functions.new
+        ≡ contents functions.old ++ map signature_of (functions_of (declarations_at table.now at count))) }
+    ensures lenders { (globals.new.words.ghost_name ≡ globals.old.words.ghost_name) × (functions.new.words.ghost_name ≡ functions.old.words.ghost_name) }
 {
-    if count == 0 {
-        return Ok(at);
+    let mut found = Measured { words: 0, next: at };
+    for _ in 0..count {
+        let first = declaration(table, found.next, globals, functions)?;
+        found = first.at_least(found.words);
     }
-    let node = table[at];
-    match node_kind(node) {
-        NodeKind::Function => {
-            scope.cut(0);
-            let body = locals(table, part_count(node), at + 1, globals, scope)?;
-            let next = statement(table, body, globals, functions, scope)?;
-            bodies(table, count - 1, next, globals, functions, scope)
+    Ok(found)
+}
+
+impl Context<'_> {
+    // Parameters and body of the function that is declared at `at`, if one is: the index after the declaration.
+    // The names in scope lie in `names`.
+    fn body(&self, at: usize, names: &mut [u16]) -> Result<usize, Refusal>
+        requires parts { Parts self.now.table.now at 1 Declaration }
+        requires room { length self.now.table.now ≤ length names.old }
+        ensures { result ≡ checked_functions self.now 1 at }
+    {
+        let node = self.table[at];
+        match node_kind(node) {
+            NodeKind::Function => {
+                let mut scope = Stack::new(names, 0);
+                let body = self.locals(part_count(node), at + 1, &mut scope)?;
+                self.statement(body, &mut scope)
+            }
+            _ => Ok(at + 1),
         }
-        _ => bodies(table, count - 1, at + 1, globals, functions, scope),
+    }
+
+    // Those of each function among `count` global declarations from `at` on, in order: the index after them.
+    pub(crate) fn bodies(
+        &self,
+        count: usize,
+        at: usize,
+        names: &mut [u16],
+    ) -> Result<usize, Refusal>
+        requires parts { Parts self.now.table.now at count Declaration }
+        requires room { length self.now.table.now ≤ length names.old }
+        ensures { result ≡ checked_functions self.now count at }
+    {
+        let mut next = at;
+        for _ in 0..count {
+            next = self.body(next, names)?;
+        }
+        Ok(next)
     }
 }

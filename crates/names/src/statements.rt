@@ -1,47 +1,19 @@
-// The name rules of a statement and of several statements, in a ring; the names in scope lie on a stack, newest on top.
-ghost use Rattle.std.specs.Prelude.{◌≡◌, ◌+◌, ◌<◌, ◌≤◌, ◌++◌, map, length, replicate, IfOk, OnOk};
+// The name rules of a statement and of several statements, in a ring: the project's rules want the checker as rings.
+// The names in scope lie on a stack, newest on top.
+ghost use Rattle.std.specs.Prelude.{◌≡◌, ◌+◌, ◌≤◌, ◌++◌, map, length, IfOk, OnOk};
 ghost use Rattle.stack.specs.Store.{contents, capacity};
 ghost use Rattle.script.specs.declared.rows.Sort.TheVariants.{Statement};
 ghost use Rattle.syntax.specs.Syntax.{name_of};
-ghost use Rattle.syntax.specs.Trees.{tree_at, pieces, Sound, Sounds, Leaves};
+ghost use Rattle.syntax.specs.Trees.{pieces, Leaves, Part};
 ghost use Rattle.syntax.specs.Typed.{variables_at};
-ghost use Rattle.names.specs.Passes.{checked_locals, checked_statement, checked_statements};
+ghost use Rattle.names.specs.Parts.{Parts};
+ghost use Rattle.names.specs.Passes.{checked_locals, checked_statement, checked_statements, Kept};
 
-use crate::expressions::expression;
-use crate::lookups::check_new;
-use crate::signature::Signature;
+use crate::context::Context;
+use script::Refusal;
 use script::rows::NodeKind;
-use script::{Record, Refusal};
 use stack::Stack;
 use syntax::parts::{node_kind, statement_count};
-
-// Declares `count` locals or parameters, a record each from `at` on: the index after them.
-pub fn locals(
-    table: &[Record],
-    count: usize,
-    at: usize,
-    globals: &[u16],
-    scope: &mut Stack<'_, u16>,
-) -> Result<usize, Refusal>
-    requires within { at + count ≤ length table.now }
-    requires sound { Leaves count (pieces table.now at count) }
-    requires room { scope.old.height + count ≤ capacity scope.old }
-    ensures answer { result
-        ≡ checked_locals table.now globals.now count at (contents scope.old) }
-    ensures bound { IfOk result
-        (λ _. contents scope.new
-        ≡ contents scope.old ++ map name_of (variables_at table.now at count)) }
-    ensures height { OnOk result (scope.new.height ≡ scope.old.height + count) }
-    ensures store { capacity scope.new ≡ capacity scope.old }
-{
-    if count == 0 {
-        return Ok(at);
-    }
-    let node = table[at];
-    check_new(node.a, at, globals, scope.live())?;
-    scope.push(node.a);
-    locals(table, count - 1, at + 1, globals, scope)
-}
 
 // The locals of a block are no longer in scope.
 fn leave_block(scope: &mut Stack<'_, u16>, mark: usize)
@@ -51,78 +23,75 @@ fn leave_block(scope: &mut Stack<'_, u16>, mark: usize)
     scope.cut(mark);
 }
 
-// The statement at `at`: the index after it. A block's locals are in scope up to its end.
-#[cycle(statement_statements)]
-pub fn statement(
-    table: &[Record],
-    at: usize,
-    globals: &[u16],
-    functions: &[Signature],
-    scope: &mut Stack<'_, u16>,
-) -> Result<usize, Refusal>
-    requires within { at < length table.now }
-    requires sound { Sound (tree_at table.now at) Statement }
-    requires room { scope.old.height + length table.now ≤ capacity scope.old + at }
-    ensures answer { result
-        ≡ checked_statement table.now globals.now functions.now at
-        (contents scope.old) }
-    ensures kept { OnOk result (contents scope.new ≡ contents scope.old) }
-    ensures height { OnOk result (scope.new.height ≡ scope.old.height) }
-    ensures store { capacity scope.new ≡ capacity scope.old }
-{
-    let node = table[at];
-    match node_kind(node) {
-        NodeKind::Block => {
-            let mark = scope.height();
-            let first = locals(table, node.a as usize, at + 1, globals, scope)?;
-            let next = statements(
-                table,
-                statement_count(node),
-                first,
-                globals,
-                functions,
-                scope,
-            )?;
-            leave_block(scope, mark);
-            Ok(next)
+impl Context<'_> {
+    // Declares `count` locals or parameters, a record each from `at` on: the index after them.
+    pub(crate) fn locals(
+        &self,
+        count: usize,
+        at: usize,
+        scope: &mut Stack<'_, u16>,
+    ) -> Result<usize, Refusal>
+        requires within { at + count ≤ length self.now.table.now }
+        requires sound { Leaves count (pieces self.now.table.now at count) }
+        requires room { scope.old.height + count ≤ capacity scope.old }
+        ensures answer { result ≡ checked_locals self.now count at (contents scope.old) }
+        ensures bound { IfOk result
+            (λ _. contents scope.new
+            ≡ contents scope.old ++ map name_of (variables_at self.now.table.now at count)) }
+        ensures height { OnOk result (scope.new.height ≡ scope.old.height + count) }
+        ensures store { capacity scope.new ≡ capacity scope.old }
+    {
+        let end = at + count;
+        for place in at..end {
+            let name = self.table[place].a;
+            self.check_new(name, place, scope.live())?;
+            scope.push(name);
         }
-        _ => {
-            let next = expression(table, at + 1, globals, functions, scope.live())?;
-            statements(
-                table,
-                statement_count(node),
-                next,
-                globals,
-                functions,
-                scope,
-            )
-        }
+        Ok(end)
     }
-}
 
-// `count` statements from `at` on: the index after them.
-#[cycle(statement_statements)]
-fn statements(
-    table: &[Record],
-    count: usize,
-    at: usize,
-    globals: &[u16],
-    functions: &[Signature],
-    scope: &mut Stack<'_, u16>,
-) -> Result<usize, Refusal>
-    requires within { at ≤ length table.now }
-    requires sound { Sounds (pieces table.now at count) (replicate count Statement) }
-    requires room { scope.old.height + length table.now ≤ capacity scope.old + at }
-    ensures answer { result
-        ≡ checked_statements table.now globals.now functions.now count at
-        (contents scope.old) }
-    ensures kept { OnOk result (contents scope.new ≡ contents scope.old) }
-    ensures height { OnOk result (scope.new.height ≡ scope.old.height) }
-    ensures store { capacity scope.new ≡ capacity scope.old }
-{
-    if count == 0 {
-        return Ok(at);
+    // The statement at `at`: the index after it. A block's locals are in scope up to its end.
+    #[cycle(statement_statements)]
+    pub(crate) fn statement(&self, at: usize, scope: &mut Stack<'_, u16>) -> Result<usize, Refusal>
+        requires part { Part self.now.table.now at Statement }
+        requires room { scope.old.height + length self.now.table.now ≤ capacity scope.old + at }
+        ensures answer { result ≡ checked_statement self.now at (contents scope.old) }
+        ensures scope { Kept result scope.old scope.new }
+    {
+        let node = self.table[at];
+        let count = statement_count(node);
+        match node_kind(node) {
+            NodeKind::Block => {
+                let mark = scope.height();
+                let first = self.locals(node.a as usize, at + 1, scope)?;
+                let next = self.statements(count, first, scope)?;
+                leave_block(scope, mark);
+                Ok(next)
+            }
+            _ => {
+                let next = self.expression(at + 1, scope.live())?;
+                self.statements(count, next, scope)
+            }
+        }
     }
-    let next = statement(table, at, globals, functions, scope)?;
-    statements(table, count - 1, next, globals, functions, scope)
+
+    // `count` statements from `at` on: the index after them.
+    #[cycle(statement_statements)]
+    fn statements(
+        &self,
+        count: usize,
+        at: usize,
+        scope: &mut Stack<'_, u16>,
+    ) -> Result<usize, Refusal>
+        requires parts { Parts self.now.table.now at count Statement }
+        requires room { scope.old.height + length self.now.table.now ≤ capacity scope.old + at }
+        ensures answer { result ≡ checked_statements self.now count at (contents scope.old) }
+        ensures scope { Kept result scope.old scope.new }
+    {
+        if count == 0 {
+            return Ok(at);
+        }
+        let next = self.statement(at, scope)?;
+        self.statements(count - 1, next, scope)
+    }
 }

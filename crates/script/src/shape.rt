@@ -46,11 +46,11 @@ fn parts(table: &[Record], want: Sort, count: usize, at: usize) -> Result<usize,
     ensures answer { result ≡ from table.now at (replicate count want) }
     ensures further { IfOk result (λ n. (at ≤ n) × (n ≤ length table.now)) }
 {
-    if count == 0 {
-        return Ok(at);
+    let mut next = at;
+    for _ in 0..count {
+        next = part(table, want, next)?;
     }
-    let next = part(table, want, at)?;
-    parts(table, want, count - 1, next)
+    Ok(next)
 }
 
 // Is the table one program, and nothing more?

@@ -11,6 +11,7 @@ use Rattle.code.specs.declared.instruction.FunctionEntry.{FunctionEntry}
 use Rattle.code.specs.Scheme.{op, statement_code, function_code, functions_code, entries_from, number_of}
 use Rattle.code.specs.Scheme.{program_code, function_entries, global_numbers}
 use Rattle.translator.specs.Records.{entry_of}
+use Rattle.translator.specs.Translations.{Held, translation_of}
 
 module _ (globals : List ℕ) (functions : List Signature) where
   -- A function f, known as g: its body, then POP, LIT 0 and RET.
@@ -73,18 +74,25 @@ module _ (p : Program) (ds : List Declaration) (s : Statement) (is : p ≡ recor
   rest-is-main : rest ≡ suc (length own_code)
   rest-is-main = omega (arith, ap length e₂, length-append main (op 0 Halt ∷ []), ap length main-is)
 
-  pub program-code : (all : List Instruction) →
+  code-is : (all : List Instruction) →
       all ≡ halted ++ functions_code (reverse names) functions (functions_of ds) rest → all ≡ program_code p
   unfolding own_code
-  program-code all e₃ =
+  code-is all e₃ =
       e₃
       ∙ rw (e₂, main-is, rest-is-main, globals-are, signatures)
       (append_assoc own_code (op 0 Halt ∷ []) _ ∙ rw is refl)
 
-  pub program-entries : (y z : List FunctionEntry) → y ≡ [] →
+  entries-are : (y z : List FunctionEntry) → y ≡ [] →
       z ≡ y ++ entries_from (reverse names) functions (functions_of ds) rest → z ≡ function_entries p
   unfolding own_code
-  program-entries y z e f = f ∙ rw (e, rest-is-main, globals-are, signatures) (rw is refl)
+  entries-are y z e f = f ∙ rw (e, rest-is-main, globals-are, signatures) (rw is refl)
 
-  pub program-numbers : (y z : List ℤ) → y ≡ [] → z ≡ y ++ map number_of (variables_of ds) → z ≡ global_numbers p
-  program-numbers y z e f = f ∙ rw (e, is) refl
+  numbers-are : (y z : List ℤ) → y ≡ [] → z ≡ y ++ map number_of (variables_of ds) → z ≡ global_numbers p
+  numbers-are y z e f = f ∙ rw (e, is) refl
+
+  pub program-made : (all : List Instruction) (y entries : List FunctionEntry) (u numbers : List ℤ) →
+      all ≡ halted ++ functions_code (reverse names) functions (functions_of ds) rest →
+      y ≡ [] → entries ≡ y ++ entries_from (reverse names) functions (functions_of ds) rest →
+      u ≡ [] → numbers ≡ u ++ map number_of (variables_of ds) → let made : Held = record { code = all; entries = entries; globals = numbers } in made ≡ translation_of p
+  program-made all y entries u numbers e f g h i =
+      cc (code-is all e, entries-are y entries f g, numbers-are u numbers h i)

@@ -1,3 +1,4 @@
 pub mod Records
+pub mod Emitting
 pub mod Translations
 pub mod Length

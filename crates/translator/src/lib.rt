@@ -1,7 +1,7 @@
 // The translator: a table of accepted shape and names becomes stack code, in memory reserved beforehand.
 #![tactic(auto)]
 
-mod emit;
+mod emitter;
 mod expressions;
 mod functions;
 pub mod laws;

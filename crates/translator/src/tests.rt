@@ -38,49 +38,19 @@ const PLACES: &[u8; 36] = &[
     4, 9, 8, 7, 4, 12, 13, 11, 10, 16, 17, 15, 14, 10, 19, 4, 4, 4, 2, 2, 2,
 ];
 
-fn number(operation: Operation) -> u8 {
-    match operation {
-        Operation::Lit(_) => 0,
-        Operation::GetL(_) => 1,
-        Operation::SetL(_) => 2,
-        Operation::GetG(_) => 3,
-        Operation::SetG(_) => 4,
-        Operation::Add => 5,
-        Operation::Sub => 6,
-        Operation::Gt => 7,
-        Operation::Pop => 8,
-        Operation::Jz(_) => 9,
-        Operation::Jmp(_) => 10,
-        Operation::Tick => 11,
-        Operation::Call(_) => 12,
-        Operation::Ret => 13,
-        Operation::BayR => 14,
-        Operation::BayW => 15,
-        Operation::Halt => 16,
-    }
-}
-
 fn is_its_code(code: &[Instruction]) -> bool {
-    if code.len() != 36 {
-        return false;
-    }
-    for i in 0..36 {
-        if number(code[i].operation) != OPERATIONS[i] || code[i].place != PLACES[i] as usize {
-            return false;
-        }
-    }
-    true
+    let expected = OPERATIONS.iter().zip(PLACES);
+    code.len() == OPERATIONS.len()
+        && code.iter().zip(expected).all(|(instruction, (number, place))| {
+            instruction.operation.number() == *number && instruction.place == usize::from(*place)
+        })
 }
 
 // Where the jump at `at` goes.
-fn target(code: &[Instruction], at: usize) -> usize {
-    if at >= code.len() {
-        return 99;
-    }
-    match code[at].operation {
-        Operation::Jz(to) => to,
-        Operation::Jmp(to) => to,
-        _ => 99,
+fn target(code: &[Instruction], at: usize) -> Option<usize> {
+    match code.get(at)?.operation {
+        Operation::Jz(to) | Operation::Jmp(to) => Some(to),
+        _ => None,
     }
 }
 
@@ -90,8 +60,8 @@ fn every_kind_is_translated(rt: HostRuntime) -> Result<(), Fail> {
     assert!(rt; translation.translate(EVERY_KIND).is_ok());
     let code = translation.code();
     assert!(rt; is_its_code(code));
-    assert!(rt; target(code, 7) == 13 && target(code, 12) == 0);
-    assert!(rt; target(code, 23) == 29 && target(code, 28) == 30);
+    assert!(rt; target(code, 7) == Some(13) && target(code, 12) == Some(0));
+    assert!(rt; target(code, 23) == Some(29) && target(code, 28) == Some(30));
     assert!(rt; translation.entries().len() == 1 && translation.entries()[0].start == 15);
     assert!(rt; translation.globals().len() == 1 && translation.globals()[0] == 5);
     Ok(())

@@ -1,13 +1,18 @@
--- A function among the global declarations is passed over as a whole.
-use Rattle.std.proofs.Common.{◌≡◌, ℕ, ◌+◌, ◌<◌, List, get_or, replicate, refl, arith}
+-- The declarations of a table, one after another, and the search for a function among them.
+use Rattle.std.proofs.Common.{◌≡◌, ℕ, ◌+◌, ◌-◌, ◌<◌, List, length, get_or, replicate, None, refl, ap, ◌∙◌, arith}
 use Rattle.script.specs.declared.record.Record.{Record}
 use Rattle.script.specs.declared.rows.Sort.TheVariants.{Declaration as DeclarationSort}
 use Rattle.script.specs.declared.rows.NodeKind.TheVariants as is
 use Rattle.script.specs.Rows.{node_of}
+use Rattle.syntax.specs.Syntax.{Declaration, Program, function_named, functions_of}
 use Rattle.syntax.specs.Trees.{no_record, tree_at, pieces, size, Sounds}
-use Rattle.syntax.specs.Typed.{first_parts}
-use Rattle.syntax.proofs.Declarations.{FirstFunction, first_function}
+use Rattle.syntax.specs.Typed.{first_parts, declarations_at}
+use Rattle.syntax.proofs.Expressions.{firsts}
+use Rattle.syntax.proofs.Declarations.{FirstFunction, first_function, first-variable, programmed}
+use Rattle.walk.specs.Ready.{Accepted, Located, functions_in}
+use Rattle.walk.proofs.Bindings.{eqb-true, eqb-ne}
 
+-- A function is passed over as a whole.
 pub function-passed : (table : List Record) (at many next : ℕ) → 0 < many →
     Sounds (pieces table at many) (replicate many DeclarationSort) →
     node_of (get_or table at no_record).kind ≡ is.Function → next ≡ at + size (tree_at table at) →
@@ -19,3 +24,58 @@ function-passed table at many next h s b e =
     let w = p.function.whole in
     let z : next ≡ at + 1 + n + size (tree_at table (at + 1 + n)) = omega arith in
     first_function table at many n _ next no_record h s b refl refl z
+
+-- The function of a name is looked for among the declarations of a table: `left` of them are left, from an index on.
+pub record Sought (table : List Record) (name at left : ℕ) : Type 0 where
+  pub sound : Sounds (pieces table at left) (replicate left DeclarationSort)
+  pub is : function_named name (functions_in table)
+      ≡ function_named name (functions_of (declarations_at table at left))
+
+pub sought-in-all : (table : List Record) (name : ℕ) → Accepted table → Sought table name 1 (get_or table 0 no_record).a
+sought-in-all table name a =
+    let p = programmed table _ _ no_record a.some a.sound refl refl in
+    record {
+      sound = p.declared;
+      is = ap (λ (q : Program). function_named name (functions_of q.declarations)) p.is;
+    }
+
+module _ {table : List Record} {name at left : ℕ} (s : Sought table name at left) (h : 0 < left) where
+  pub next-within : at < length table
+  next-within = (firsts table at left _ DeclarationSort h s.sound refl).within
+
+  pub past-variable : (node_of (get_or table at no_record).kind ≡ is.Function → ⊥) →
+      Sought table name (at + 1) (left - 1)
+  past-variable n =
+      let p = first-variable table at left no_record h s.sound n in
+      record {
+        sound = p.others;
+        is = s.is ∙ ap (λ (ds : List Declaration). function_named name (functions_of ds)) p.is;
+      }
+
+  module _ (b : node_of (get_or table at no_record).kind ≡ is.Function) where
+    pub past-function : (next : ℕ) → next ≡ at + size (tree_at table at) →
+        (name ≡ (get_or table at no_record).a → ⊥) → Sought table name next (left - 1)
+    past-function next e n =
+        let p = function-passed table at left next h s.sound b e in
+        record {
+          sound = p.others;
+          is = s.is ∙ (ap (λ (ds : List Declaration). function_named name (functions_of ds)) p.is
+              ∙ rw (eqb-ne name (get_or table at no_record).a n) refl);
+        }
+
+    pub located-here : name ≡ (get_or table at no_record).a → Located table (function_named name (functions_in table)) at
+    located-here e =
+        let g = firsts table at left _ DeclarationSort h s.sound refl in
+        let p = function-passed table at left _ h s.sound b refl in
+        record {
+          within = g.within;
+          sound = g.first;
+          kind = b;
+          is = s.is ∙ (ap (λ (ds : List Declaration). function_named name (functions_of ds)) p.is
+              ∙ rw (eqb-true name (get_or table at no_record).a e, p.function.is) refl);
+        }
+
+pub none-left : {table : List Record} {name at left : ℕ} → Sought table name at left → left ≡ 0 →
+    function_named name (functions_in table) ≡ None
+none-left {table} {name} {at} s z =
+    s.is ∙ ap (λ (n : ℕ). function_named name (functions_of (declarations_at table at n))) z

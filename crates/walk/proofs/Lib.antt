@@ -2,6 +2,9 @@ pub mod Skips
 pub mod Bindings
 pub mod States
 pub mod Declared
+pub mod Binds
+pub mod Given
+pub mod GlobalBindings
 pub mod Views
 pub mod Runs
 pub mod Readies

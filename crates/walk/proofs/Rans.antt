@@ -1,31 +1,33 @@
 -- What a node has come to, from what its parts have come to.
 use Rattle.std.proofs.Common.{◌≡◌, ℕ, ◌≤◌, length, ℤ, Ok, Err, Result, sym, ap, ◌∙◌, arith}
+use Rattle.std.proofs.lemmas.Result.{err_from_is_err_and}
+use Rattle.std.specs.Result.{IsErrAnd}
 use Rattle.treerun.specs.TreeRun.{Outcome, value}
 use Rattle.walk.specs.declared.state.Stop.{Stop}
-use Rattle.walk.specs.Lent.{Lent, bound, fuel, state, stopped, Ran, RanPart}
+use Rattle.walk.specs.Lent.{Lent, state, stopped, Ran, RanPart}
 
 module _ {A B : Type 0} {means : B → A} {next : B → ℕ} {end : ℕ} where
-  -- No value, after parts that had one.
-  pub refuses : {a : Lent} {s : Stop} (b₀ : Lent) (q : Outcome ℤ A) (r : Result B Stop) →
-      ((y : Stop) × (r ≡ Err y) × (y ≡ s)) →
-      fuel a ≤ fuel b₀ → bound b₀ ≤ bound a → bound a ≤ length a.names → bound a ≤ length a.words →
+  -- No value, after parts that had one: a `?` returns what it was given.
+  pub refuses : {a : Lent} (s : Stop) (b₀ : Lent) (q : Outcome ℤ A) (r : Result B Stop) → IsErrAnd r (λ y. y ≡ s) →
+      a.fuel ≤ b₀.fuel → b₀.bound ≤ a.bound → a.bound ≤ length a.names → a.bound ≤ length a.words →
       q ≡ stopped s (state a) → Ran q r means next end b₀ a
-  refuses {a} {s} b₀ q r e f h i j x =
-      let z : r ≡ Err s = e.1 ∙ ap Err e.2 in
+  refuses {a} s b₀ q r e f h i j x =
+      let y = err_from_is_err_and r e in
+      let z : r ≡ Err s = y.1 ∙ ap Err y.2 in
       rw z record { runs = x; fuel = f; kept = (h, i, j); ends = tt }
 
   -- A part that has no value: neither has the node.
   pub passes : {A' B' : Type 0} {p : Outcome ℤ A'} {means' : B' → A'} {next' : B' → ℕ} {end' : ℕ} {b a : Lent}
       {s : Stop} →
-      (b₀ : Lent) (q : Outcome ℤ A) (r : Result B Stop) → ((y : Stop) × (r ≡ Err y) × (y ≡ s)) →
-      bound b₀ ≤ bound b → fuel b ≤ fuel b₀ → Ran p (Err s) means' next' end' b a → q ≡ stopped s (state a) →
+      (b₀ : Lent) (q : Outcome ℤ A) (r : Result B Stop) → IsErrAnd r (λ y. y ≡ s) →
+      b₀.bound ≤ b.bound → b.fuel ≤ b₀.fuel → Ran p (Err s) means' next' end' b a → q ≡ stopped s (state a) →
       Ran q r means next end b₀ a
-  passes b₀ q r e h f k x = refuses b₀ q r e (omega (arith, k.fuel)) (omega (arith, k.kept.0)) k.kept.1
+  passes b₀ q r e h f k x = refuses _ b₀ q r e (omega (arith, k.fuel)) (omega (arith, k.kept.0)) k.kept.1
       k.kept.2 x
 
   -- A node that comes to what its last part comes to.
   pub follows : {p : Outcome ℤ A} {end' : ℕ} {b a : Lent} (b₀ : Lent) (q : Outcome ℤ A) (r : Result B Stop) →
-      bound b ≡ bound b₀ → fuel b ≤ fuel b₀ → end' ≡ end → Ran p r means next end' b a → q ≡ p →
+      b.bound ≡ b₀.bound → b.fuel ≤ b₀.fuel → end' ≡ end → Ran p r means next end' b a → q ≡ p →
       Ran q r means next end b₀ a
   follows b₀ q (Ok v) c f e k x = record {
     runs = x ∙ k.runs;
@@ -45,7 +47,7 @@ module _ {A B : Type 0} {means : B → A} {next : B → ℕ} {end : ℕ} where
 
 -- A value.
 pub gives : (b₀ a : Lent) (q : Outcome ℤ ℤ) (w' w : ℤ) (n end : ℕ) → w' ≡ w → q ≡ value w (state a) →
-    fuel a ≤ fuel b₀ → bound a ≡ bound b₀ → n ≡ end →
+    a.fuel ≤ b₀.fuel → a.bound ≡ b₀.bound → n ≡ end →
     RanPart q (Ok (record { word = w'; next = n })) end b₀ a
 gives b₀ a q w' w n end e x f b h = record {
   runs = x

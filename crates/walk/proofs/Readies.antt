@@ -5,33 +5,31 @@ use Rattle.script.specs.declared.record.Record.{Record}
 use Rattle.script.specs.declared.rows.Operator.{Operator}
 use Rattle.script.specs.declared.rows.Sort.TheVariants.{Expression as ExpressionSort, Statement as StatementSort}
 use Rattle.script.specs.declared.rows.NodeKind.TheVariants as is
-use Rattle.script.specs.Rows.{natural, amount}
 use Rattle.syntax.specs.Syntax.{Expression, binary, assign, call, bay_read, bay_write, Arguments, no_argument, argument}
 use Rattle.syntax.specs.Syntax.{Statement, evaluate, if_else, while, give_back, block, Statements, no_statement, then, Function}
 use Rattle.syntax.specs.Syntax.{function_named, name_of}
 use Rattle.syntax.specs.Trees.{size, sizes, pieces, tree_at, no_record, Leaves}
 use Rattle.syntax.specs.Typed.{arguments_of, statements_of, expression_at, arguments_at, statement_at, statements_at, variables_at, node_at}
-use Rattle.syntax.specs.Typed.{function_of, first_parts}
-use Rattle.syntax.proofs.NodeKinds.{row_for, row_is}
+use Rattle.syntax.specs.Typed.{function_of, first_parts, second_parts}
 use Rattle.syntax.proofs.Expressions.{firsts}
 use Rattle.syntax.proofs.Statements.{blocked}
 use Rattle.syntax.proofs.Shapes.{simple-at, return-at, chosen, looped}
 use Rattle.syntax.proofs.Declarations.{functional}
 use Rattle.names.specs.Need.{need_expression, need_arguments, need_statement, need_statements, need_function, need_functions}
 use Rattle.names.specs.Scoped.{Takes, ScopedExpression, ScopedArguments, ScopedStatement, ScopedStatements, ScopedFunctions}
-use Rattle.walk.specs.declared.state.Calls.{Calls}
-use Rattle.walk.specs.Lent.{Lent, bound}
+use Rattle.walk.specs.declared.walker.Walker.{Walker}
+use Rattle.walk.specs.Lent.{Lent, lent_in, Same}
 use Rattle.walk.specs.Ready.{functions_in, globals_in, need_in, Room, ReadyExpression, ReadyArguments, ReadyStatement, ReadyStatements, Located}
 use Rattle.walk.proofs.Views.{one-part, two-parts, called}
 
 -- As many bindings stand, in slices as long.
 pub record SameRoom (l l' : Lent) : Type 0 where
-  pub bindings : bound l' ≡ bound l
+  pub bindings : l'.bound ≡ l.bound
   pub names : length l'.names ≡ length l.names
   pub words : length l'.words ≡ length l.words
 
-pub less-room : {table : List Record} {calls : Calls} {a b : ℕ} {l l' : Lent} → Room table calls a l → b ≤ a →
-    SameRoom l l' → Room table calls b l'
+pub less-room : {table : List Record} {depth opened a b : ℕ} {l l' : Lent} → Room table depth opened a l → b ≤ a →
+    SameRoom l l' → Room table depth opened b l'
 less-room r h s = record {
   accepted = r.accepted;
   below = r.below;
@@ -39,17 +37,21 @@ less-room r h s = record {
   words = omega (arith, r.words, s.words, s.bindings);
 }
 
+-- A walker's slices stay as long.
+pub same-room : {w w' : Walker} → Same w w' → w'.bound ≡ w.bound → SameRoom (lent_in w) (lent_in w')
+same-room s b = record { bindings = b; names = s.names_length; words = s.words_length }
+
 pub same : (l : Lent) → SameRoom l l
 same l = record { bindings = refl; names = refl; words = refl }
 
-module _ (table : List Record) (calls : Calls) (at : ℕ) (l : Lent) where
+module _ (table : List Record) (depth opened at : ℕ) (l : Lent) where
   abbrev Scoped : List ℕ → Expression → Type 0
   Scoped own e = ScopedExpression (globals_in table) (functions_in table) e own
 
-  module _ (r : ReadyExpression table calls at l) where
+  module _ (r : ReadyExpression table depth opened at l) where
     -- An expression of one part.
     pub record OneReady (made : Expression → Expression) : Type 0 where
-      pub part : ReadyExpression table calls (at + 1) l
+      pub part : ReadyExpression table depth opened (at + 1) l
       pub is : expression_at table at ≡ made (expression_at table (at + 1))
       pub ends : at + 1 + size (tree_at table (at + 1)) ≡ at + size (tree_at table at)
 
@@ -85,8 +87,8 @@ module _ (table : List Record) (calls : Calls) (at : ℕ) (l : Lent) where
 
     -- An expression of two parts, the second at m.
     pub record TwoReady (m : ℕ) (made : Expression → Expression → Expression) : Type 0 where
-      pub first : ReadyExpression table calls (at + 1) l
-      pub second : (l' : Lent) → SameRoom l l' → ReadyExpression table calls m l'
+      pub first : ReadyExpression table depth opened (at + 1) l
+      pub second : (l' : Lent) → SameRoom l l' → ReadyExpression table depth opened m l'
       pub is : expression_at table at ≡ made (expression_at table (at + 1)) (expression_at table m)
       pub ends : m + size (tree_at table m) ≡ at + size (tree_at table at)
 
@@ -141,13 +143,13 @@ module _ (table : List Record) (calls : Calls) (at : ℕ) (l : Lent) where
 
     -- A call: its n arguments, as many as its function takes.
     pub record CallReady (n : ℕ) : Type 0 where
-      pub ready : ReadyArguments table calls (at + 1) n l
+      pub ready : ReadyArguments table depth opened (at + 1) n l
       pub few : n ≤ 15
       pub is : expression_at table at ≡ call at (get_or table at no_record).a (arguments_at table (at + 1) n)
       pub ends : at + 1 + sizes (pieces table (at + 1) n) ≡ at + size (tree_at table at)
       pub takes : Takes (function_named (get_or table at no_record).a (functions_in table)) n
 
-    pub call-ready : (n : ℕ) → node_at table at ≡ is.Call → n ≡ natural (get_or table at no_record).v → CallReady n
+    pub call-ready : (n : ℕ) → node_at table at ≡ is.Call → n ≡ first_parts (get_or table at no_record) → CallReady n
     call-ready n b en =
         let v = called table at r.part n b en in
         let s = subst (Scoped r.own) v.is r.scoped in
@@ -165,13 +167,13 @@ module _ (table : List Record) (calls : Calls) (at : ℕ) (l : Lent) where
           takes = rw v.count at s.0;
         }
 
-  module _ (r : ReadyStatement table calls at l) where
+  module _ (r : ReadyStatement table depth opened at l) where
     abbrev InScope : Statement → Type 0
     InScope s = ScopedStatement (globals_in table) (functions_in table) s r.own
 
     -- A statement of one expression.
     pub record SimpleReady (made : Expression → Statement) : Type 0 where
-      pub part : ReadyExpression table calls (at + 1) l
+      pub part : ReadyExpression table depth opened (at + 1) l
       pub is : statement_at table at ≡ made (expression_at table (at + 1))
       pub ends : at + 1 + size (tree_at table (at + 1)) ≡ at + size (tree_at table at)
 
@@ -205,8 +207,8 @@ module _ (table : List Record) (calls : Calls) (at : ℕ) (l : Lent) where
 
     -- A while, its body at m.
     pub record WhileReady (m : ℕ) : Type 0 where
-      pub test : (l' : Lent) → SameRoom l l' → ReadyExpression table calls (at + 1) l'
-      pub body : (l' : Lent) → SameRoom l l' → ReadyStatement table calls m l'
+      pub test : (l' : Lent) → SameRoom l l' → ReadyExpression table depth opened (at + 1) l'
+      pub body : (l' : Lent) → SameRoom l l' → ReadyStatement table depth opened m l'
       pub within : m < length table
       pub is : statement_at table at ≡ while at (expression_at table (at + 1)) (statement_at table m)
       pub ends : m + size (tree_at table m) ≡ at + size (tree_at table at)
@@ -236,9 +238,9 @@ module _ (table : List Record) (calls : Calls) (at : ℕ) (l : Lent) where
 
     -- An if, its statements at m and at n.
     pub record IfReady (m n : ℕ) : Type 0 where
-      pub test : ReadyExpression table calls (at + 1) l
-      pub first : (l' : Lent) → SameRoom l l' → ReadyStatement table calls m l'
-      pub second : (l' : Lent) → SameRoom l l' → ReadyStatement table calls n l'
+      pub test : ReadyExpression table depth opened (at + 1) l
+      pub first : (l' : Lent) → SameRoom l l' → ReadyStatement table depth opened m l'
+      pub second : (l' : Lent) → SameRoom l l' → ReadyStatement table depth opened n l'
       pub first_within : m < length table
       pub second_within : n < length table
       pub is : statement_at table at ≡ if_else at (expression_at table (at + 1)) (statement_at table m)
@@ -282,16 +284,16 @@ needs-more : (es : Arguments) (i : ℕ) → need_arguments es i ≤ need_argumen
 needs-more no_argument i = omega arith
 needs-more (argument e es) i = omega (arith, needs-more es (suc i))
 
-module _ (table : List Record) (calls : Calls) (at many : ℕ) (l : Lent) where
+module _ (table : List Record) (depth opened at many : ℕ) (l : Lent) where
   -- Arguments: the first, and those from m on.
   pub record FirstArgument (m : ℕ) : Type 0 where
-    pub first : ReadyExpression table calls at l
-    pub others : (l' : Lent) → SameRoom l l' → ReadyArguments table calls m (many - 1) l'
+    pub first : ReadyExpression table depth opened at l
+    pub others : (l' : Lent) → SameRoom l l' → ReadyArguments table depth opened m (many - 1) l'
     pub is : arguments_at table at many ≡ argument (expression_at table at) (arguments_at table m (many - 1))
     pub ends : m + sizes (pieces table m (many - 1)) ≡ at + sizes (pieces table at many)
     pub later : at < m
 
-  pub first-argument : ReadyArguments table calls at many l → 0 < many → (m : ℕ) → m ≡ at + size (tree_at table at) →
+  pub first-argument : ReadyArguments table depth opened at many l → 0 < many → (m : ℕ) → m ≡ at + size (tree_at table at) →
       FirstArgument m
   first-argument r h m em =
       let f = firsts table at many m ExpressionSort h r.sound em in
@@ -321,13 +323,13 @@ module _ (table : List Record) (calls : Calls) (at many : ℕ) (l : Lent) where
 
   -- Statements.
   pub record FirstStatement (m : ℕ) : Type 0 where
-    pub first : ReadyStatement table calls at l
-    pub others : (l' : Lent) → SameRoom l l' → ReadyStatements table calls m (many - 1) l'
+    pub first : ReadyStatement table depth opened at l
+    pub others : (l' : Lent) → SameRoom l l' → ReadyStatements table depth opened m (many - 1) l'
     pub is : statements_at table at many ≡ then (statement_at table at) (statements_at table m (many - 1))
     pub ends : m + sizes (pieces table m (many - 1)) ≡ at + sizes (pieces table at many)
     pub later : at < m
 
-  pub first-statement : ReadyStatements table calls at many l → 0 < many → (m : ℕ) → m ≡ at + size (tree_at table at) →
+  pub first-statement : ReadyStatements table depth opened at many l → 0 < many → (m : ℕ) → m ≡ at + size (tree_at table at) →
       FirstStatement m
   first-statement r h m em =
       let f = firsts table at many m StatementSort h r.sound em in
@@ -360,24 +362,23 @@ on-locals : (ss : Statements) (k : ℕ) → k + need_statements ss 0 ≤ max k (
 on-locals no_statement k = omega arith
 on-locals (then s ss) k = omega (arith, on-locals ss k)
 
-module _ (table : List Record) (calls : Calls) (at : ℕ) (l : Lent) where
+module _ (table : List Record) (depth opened at : ℕ) (l : Lent) where
   -- k locals from the next record on, and n statements after them.
   pub record BlockReady (k n : ℕ) : Type 0 where
     pub plain : Leaves k (pieces table (at + 1) k)
-    pub names : bound l + k ≤ length l.names
-    pub words : bound l + k ≤ length l.words
-    pub body : (l' : Lent) → bound l' ≡ bound l + k → length l'.names ≡ length l.names →
+    pub names : l.bound + k ≤ length l.names
+    pub words : l.bound + k ≤ length l.words
+    pub body : (l' : Lent) → l'.bound ≡ l.bound + k → length l'.names ≡ length l.names →
         length l'.words ≡ length l.words →
-        ReadyStatements table calls (at + 1 + k) n l'
+        ReadyStatements table depth opened (at + 1 + k) n l'
     pub is : statement_at table at ≡ block at (variables_at table (at + 1) k) (statements_at table (at + 1 + k) n)
     pub ends : at + 1 + k + sizes (pieces table (at + 1 + k) n) ≡ at + size (tree_at table at)
 
-  pub block-ready : (k n : ℕ) → ReadyStatement table calls at l → node_at table at ≡ is.Block →
-      k ≡ (get_or table at no_record).a → n ≡ natural (get_or table at no_record).v → BlockReady k n
+  pub block-ready : (k n : ℕ) → ReadyStatement table depth opened at l → node_at table at ≡ is.Block →
+      k ≡ (get_or table at no_record).a → n ≡ second_parts (get_or table at no_record) → BlockReady k n
   block-ready k n r b ek en =
-      let row = row_is (get_or table at no_record).kind ∙ ap row_for b in
       let v = blocked table at k n (at + 1 + k) no_record r.part.within r.part.sound b ek
-      (en ∙ sym (ap (λ (z : _). amount z.second.count (get_or table at no_record)) row)) refl in
+      en refl in
       let s = subst (λ (s : Statement). ScopedStatement (globals_in table) (functions_in table) s r.own) v.is
       r.scoped in
       let ss : Statements = statements_at table (at + 1 + k) n in
@@ -450,22 +451,23 @@ not-all {a} {b} h n = go (ℕ_discrete a b)
     go (no m) = omega arith
 
 -- The function at f is entered with n words: its parameters from the next record on, and its body after them.
-pub record Entered (table : List Record) (calls : Calls) (f n : ℕ) (l : Lent) : Type 0 where
+pub record Entered (table : List Record) (depth opened f n : ℕ) (l : Lent) : Type 0 where
   pub plain : Leaves n (pieces table (f + 1) n)
-  pub names : bound l + n ≤ length l.names
-  pub words : bound l + n ≤ length l.words
+  pub names : l.bound + n ≤ length l.names
+  pub words : l.bound + n ≤ length l.words
   pub within : f + 1 + n < length table
   pub parameters : (function_of (tree_at table f)).parameters ≡ map name_of (variables_at table (f + 1) n)
   pub body : (function_of (tree_at table f)).body ≡ statement_at table (f + 1 + n)
-  pub ready : (l' : Lent) → bound l' ≡ bound l + n → length l'.names ≡ length l.names →
+  pub ready : (l' : Lent) → l'.bound ≡ l.bound + n → length l'.names ≡ length l.names →
       length l'.words ≡ length l.words →
-      ReadyStatement table (record { opened = calls.opened + 1; depth = calls.depth }) (f + 1 + n) l'
+      ReadyStatement table depth (opened + 1) (f + 1 + n) l'
 
-pub enters : (table : List Record) (calls : Calls) (need f n x : ℕ) (l : Lent) → Room table calls need l →
-    calls.opened < calls.depth →
-    Located table (function_named x (functions_in table)) f → Takes (function_named x (functions_in table)) n →
-    Entered table calls f n l
-enters table calls need f n x l r h g t =
+pub enters : {table : List Record} {depth opened need f n : ℕ} {l : Lent} (x : ℕ) → Room table depth opened need l →
+    Takes (function_named x (functions_in table)) n → Located table (function_named x (functions_in table)) f →
+    (opened ≡ depth → ⊥) → (l' : Lent) → SameRoom l l' → Entered table depth opened f n l'
+enters {table} {depth} {opened} {need} {f} {n} {l} x r₀ t g o l' e₀ =
+    let h = not-all r₀.below o in
+    let r : Room table depth opened 0 l' = less-room r₀ (omega arith) e₀ in
     let F : Function = function_of (tree_at table f) in
     let t' : length F.parameters ≡ n = subst (λ (o : Option Function). Takes o n) g.is t in
     let v₀ = functional table f _ _ no_record g.within g.sound g.kind refl refl in
@@ -478,23 +480,23 @@ enters table calls need f n x l r h g t =
     (body-scoped table x (functions_in table) F r.accepted.named.functions_scoped g.is) in
     let m = needs-most x (functions_in table) F g.is in
     let nb = ap need_statement b in
-    let d = deeper calls.depth calls.opened (need_in table) h in
+    let d = deeper depth opened (need_in table) h in
     record {
       plain = v.parameters;
-      names = omega (arith, r.names);
-      words = omega (arith, r.words);
+      names = omega (arith, r.names, m, d);
+      words = omega (arith, r.words, m, d);
       within = v.within;
       parameters = ap (λ (z : Function). z.parameters) v.is;
       body = b;
-      ready = λ l' e₁ e₂ e₃. record {
+      ready = λ l'' e₁ e₂ e₃. record {
         part = record { within = v.within; sound = v.body };
         own = reverse F.parameters;
         scoped = s;
         room = record {
           accepted = r.accepted;
           below = omega arith;
-          names = omega (arith, r.names);
-          words = omega (arith, r.words);
+          names = omega (arith, r.names, m, nb, d, e₁, e₂);
+          words = omega (arith, r.words, m, nb, d, e₁, e₃);
         };
       };
     }

@@ -1,17 +1,17 @@
 -- The outcome of a node from those of its parts, in the terms of a walk.
-use Rattle.std.proofs.Common.{◌≡◌, ℕ, suc, true, false, eqb, List, reverse, take, ℤ, pos, Some, None, Option, Result, sym, refl, ap, ◌∙◌}
+use Rattle.std.proofs.Common.{◌≡◌, ℕ, suc, ◌+◌, true, false, eqb, List, [], reverse, take, ℤ, pos, Some, None, Option, Result, sym, refl, ap, ◌∙◌, add-one}
 use Rattle.std.specs.List.{slice_get}
 use Rattle.script.specs.declared.ending.Ending.TheVariants.{NoFuel, TooDeep}
 use Rattle.kinds.specs.Counter.{counter}
 use Rattle.script.specs.declared.record.Record.{Record}
-use Rattle.syntax.specs.Syntax.{Function, Expression, Statement, while}
+use Rattle.syntax.specs.Syntax.{Function, Expression, Arguments, Statement, call, while, function_named}
 use Rattle.treerun.specs.TreeRun.{Setting, State, Outcome, value, ended, BayAnswer, gives, fails, zero_word}
 use Rattle.treerun.specs.TreeRun.{and_then, spend, spend_from, leave_block, leave_call, enter, with_fuel, bind_parameters, answered, branch, found, read_bay}
-use Rattle.treerun.specs.Laws.{expression_run, statement_run}
+use Rattle.treerun.specs.Laws.{expression_run, arguments_run, statement_run}
 use Rattle.treerun.proofs.ByRules.{by-rules}
 use Rattle.walk.specs.declared.state.Stop.{Stop}
 use Rattle.walk.specs.declared.state.Stop.TheVariants.{Returned, Ended}
-use Rattle.walk.specs.Lent.{Lent, lent, state, setting, stopped, shown, answer_at, bays_after}
+use Rattle.walk.specs.Lent.{Lent, state, setting, stopped, shown, answer_at, bays_after}
 
 module _ {A A' : Type 0} {run : Outcome ℤ A} (next : A → State ℤ → Outcome ℤ A') where
   -- The first part has a value: the next runs.
@@ -24,7 +24,7 @@ module _ {A A' : Type 0} {run : Outcome ℤ A} (next : A → State ℤ → Outco
     where
       go : (s : Stop) → and_then (stopped s σ) next ≡ stopped s σ
       go (Returned w) = refl
-      go (Ended e p) = refl
+      go (Ended e) = refl
 
 module _ {A : Type 0} (place : ℕ) (σ : State ℤ) (next : State ℤ → Outcome ℤ A) where
   -- There is no fuel, or one is spent.
@@ -38,7 +38,7 @@ module _ {A : Type 0} (place : ℕ) (σ : State ℤ) (next : State ℤ → Outco
 pub block-stops : (word : ℤ) (before : State ℤ) (s : Stop) (σ : State ℤ) →
     leave_block word before (stopped s σ) ≡ stopped s σ
 block-stops word before (Returned w) σ = refl
-block-stops word before (Ended e p) σ = refl
+block-stops word before (Ended e) σ = refl
 
 -- A call whose arguments have run.
 module _ (S : Setting ℤ) (deep : ℕ → Statement → State ℤ → Outcome ℤ ℤ) (place calls : ℕ) {o : Option Function}
@@ -59,7 +59,7 @@ module _ (S : Setting ℤ) (deep : ℕ → Statement → State ℤ → Outcome �
 -- What a bay answers, as a walk's answer.
 pub bay-answer : (place : ℕ) (b : BayAnswer ℤ) (l : Lent) →
     answered place b (state l) ≡ shown (λ w. w) (answer_at place b)
-    (state (lent l.names l.words (bays_after l.bays b) l.progress))
+    (state (record l { bays = bays_after l.bays b }))
 bay-answer place (gives w bays) l = refl
 bay-answer place (fails e) l = refl
 
@@ -76,24 +76,31 @@ pub reads : (place : ℕ) (o : Option ℕ) (l : Lent) (r : Result ℤ Stop) → 
 reads place o l r e =
     bay-answer place (read_bay l.bays o) l
     ∙ (ap (λ (bs : List ℤ). shown (λ w. w) (answer_at place (read_bay l.bays o))
-    (state (lent l.names l.words bs l.progress))) (read_keeps place l.bays o)
+    (state (record l { bays = bs }))) (read_keeps place l.bays o)
     ∙ ap (λ (r : Result ℤ Stop). shown (λ w. w) r (state l)) (sym e))
 
 pub writes : (place : ℕ) (b : BayAnswer ℤ) (l : Lent) (r : Result ℤ Stop) (bs : List ℤ) → r ≡ answer_at place b →
     bs ≡ bays_after l.bays b →
-    answered place b (state l) ≡ shown (λ w. w) r (state (lent l.names l.words bs l.progress))
+    answered place b (state l) ≡ shown (λ w. w) r (state (record l { bays = bs }))
 writes place b l r bs e f =
     bay-answer place b l
-    ∙ (ap (λ (bs : List ℤ). shown (λ w. w) (answer_at place b) (state (lent l.names l.words bs l.progress)))
+    ∙ (ap (λ (bs : List ℤ). shown (λ w. w) (answer_at place b) (state (record l { bays = bs })))
     (sym f)
-    ∙ ap (λ (r : Result ℤ Stop). shown (λ w. w) r (state (lent l.names l.words bs l.progress))) (sym e))
+    ∙ ap (λ (r : Result ℤ Stop). shown (λ w. w) r (state (record l { bays = bs }))) (sym e))
 
--- The body of a function as a call runs it.
-pub body-runs : (S : Setting ℤ) (n m : ℕ) (f : Function) (b : Statement) (ps : List ℕ) (gs : List ℤ) (k v : ℕ)
-    (υ φ : State ℤ) →
-    f.body ≡ b → f.parameters ≡ ps → k ≡ v → m ≡ suc n → φ ≡ bind_parameters ps (reverse (take v gs)) υ →
-    statement_run S f.body (suc n) (bind_parameters f.parameters (reverse (take k gs)) υ) ≡ statement_run S b m φ
-body-runs S n m f b ps gs k v υ φ eb ep ek em eφ = rw (eb, ep, ek, em, eφ) refl
+-- A call that may be entered comes to what its function's body comes to.
+pub call-runs : (S : Setting ℤ) (place x : ℕ) (es : Arguments) (calls : ℕ) (σ τ : State ℤ) (gs : List ℤ) (k v n : ℕ)
+    (f : Function) (b : Statement) (ps : List ℕ) (φ : State ℤ) →
+    arguments_run S es calls [] σ ≡ value (reverse (take k gs)) τ → function_named x S.functions ≡ Some f →
+    eqb calls S.depth ≡ false → τ.fuel ≡ suc n → f.body ≡ b → f.parameters ≡ ps → k ≡ v →
+    φ ≡ bind_parameters ps (reverse (take v gs)) (with_fuel n τ) →
+    expression_run S (call place x es) calls σ
+    ≡ leave_call (zero_word S.kind) (with_fuel n τ) (statement_run S b (calls + 1) φ)
+call-runs S place x es calls σ τ gs k v n f b ps φ h e o z eb ep ek eφ =
+    (by-rules S).of_call _ _ _ _ _
+    ∙ (goes_on _ _ _ h
+    ∙ (entered S (λ calls s σ. statement_run S s calls σ) place calls f e _ τ o n z
+    ∙ rw (eb, ep, ek, eφ, add-one calls) refl))
 
 pub no-function : (S : Setting ℤ) (deep : ℕ → Statement → State ℤ → Outcome ℤ ℤ)
     (place calls : ℕ) {o : Option Function} → o ≡ None →

@@ -100,9 +100,10 @@ module _ (table : List Record) (at : ℕ) (p : Part table at ExpressionSort) whe
     pub is : expression_at table at ≡ call at (get_or table at no_record).a (arguments_at table (at + 1) n)
     pub ends : at + 1 + sizes (pieces table (at + 1) n) ≡ at + size (tree_at table at)
 
-  pub called : (n : ℕ) → node_at table at ≡ is.Call → n ≡ natural (get_or table at no_record).v → Called n
-  called n b en =
+  pub called : (n : ℕ) → node_at table at ≡ is.Call → n ≡ first_parts (get_or table at no_record) → Called n
+  called n b e =
       let r : Record = get_or table at no_record in
+      let en : n ≡ natural r.v = e ∙ ap (λ (z : Row). amount z.first.count r) (row_is r.kind ∙ ap row_for b) in
       let v = made is.Call n b (sym en) in
       let s : Sound (node at r (pieces table (at + 1) (arity r))) ExpressionSort =
       rw (here table at no_record p.within) at p.sound in

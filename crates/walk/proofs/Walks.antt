@@ -22,7 +22,7 @@ use Rattle.treerun.specs.Laws.{statement_run}
 use Rattle.walk.specs.declared.state.Stop.{Stop}
 use Rattle.walk.specs.declared.state.Stop.TheVariants.{Returned, Ended}
 use Rattle.walk.specs.declared.state.Valued.{Valued}
-use Rattle.walk.specs.Lent.{Lent, bound, fuel, state, every, shown, word_of}
+use Rattle.walk.specs.Lent.{Lent, state, every, shown, word_of}
 use Rattle.walk.specs.Ready.{Accepted}
 use Rattle.walk.specs.Walked.{walk_rules, leaves, walked_by, report_on}
 
@@ -62,15 +62,17 @@ few-globals table a =
     omega (arith, variables-among (program_of table).declarations, e, k, f)
 
 -- The answers of a walk's checks, after the table has passed.
-module _ (table : List Record) (s : Summary) (e : Ok s ≡ table_rules table) (b d : Bool) (x y : Refusal) where
-  pub first-fails : b ≡ false → Err x ≡ and_then (table_rules table) (λ s. unless b x ⨟ unless d y)
-  first-fails h = rw (← e, h) refl
+module _ (table : List Record) (s : Summary) (e : Ok s ≡ table_rules table) (q r : Answer) where
+  pub first-fails : (x : Refusal) → Err x ≡ q → Err x ≡ and_then (table_rules table) (λ s. q ⨟ r)
+  first-fails x h = rw (← e, ← h) refl
 
-  pub second-fails : b ≡ true → d ≡ false → Err y ≡ and_then (table_rules table) (λ s. unless b x ⨟ unless d y)
-  second-fails h k = rw (← e, h, k) refl
+  pub second-counts : Ok tt ≡ q → (a : Answer) → a ≡ r → a ≡ and_then (table_rules table) (λ s. q ⨟ r)
+  second-counts h a k = rw (← e, ← h) k
 
-  pub all_pass : b ≡ true → d ≡ true → Ok tt ≡ and_then (table_rules table) (λ s. unless b x ⨟ unless d y)
-  all_pass h k = rw (← e, h, k) refl
+-- What passes `unless` is so.
+pub unless-passes : (b : Bool) (x : Refusal) → Ok tt ≡ unless b x → b ≡ true
+unless-passes true x e = refl
+unless-passes false x e = cc
 
 pub refused-table : (table : List Record) (x : Refusal) (names words fuel depth : ℕ) → Err x ≡ table_rules table →
     Err x ≡ walk_rules table names words fuel depth
@@ -84,11 +86,11 @@ laid-over {A} n xs =
 
 -- The answer and the slices are those of the run.
 pub run-shown : (granted : ℕ) (r : Result Valued Stop) (o : Outcome ℤ ℤ) (l : Lent) → o ≡ shown word_of r (state l) →
-    leaves (Ok (report_on r (granted - fuel l))) l.names l.words l.bays ≡ walked_by granted o
-run-shown granted (Ok v) o l e = rw (e, laid-over (bound l) l.names, laid-over (bound l) l.words) refl
-run-shown granted (Err (Returned w)) o l e = rw (e, laid-over (bound l) l.names, laid-over (bound l) l.words)
+    leaves (Ok (report_on r (granted - l.fuel))) l.names l.words l.bays ≡ walked_by granted o
+run-shown granted (Ok v) o l e = rw (e, laid-over l.bound l.names, laid-over l.bound l.words) refl
+run-shown granted (Err (Returned w)) o l e = rw (e, laid-over l.bound l.names, laid-over l.bound l.words)
     refl
-run-shown granted (Err (Ended x p)) o l e = rw (e, laid-over (bound l) l.names, laid-over (bound l) l.words)
+run-shown granted (Err (Ended x)) o l e = rw (e, laid-over l.bound l.names, laid-over l.bound l.words)
     refl
 
 -- The run of a program is that of its statement, once its globals are bound.

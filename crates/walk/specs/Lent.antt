@@ -1,13 +1,15 @@
 -- What the slices and the bays lent to a walk mean as a state of the tree run, and what a part that was walked has come to.
-use Rattle.std.specs.Prelude.{◌≡◌, ℕ, ◌≤◌, Bool, true, List, ◌∷◌, reverse, length, take, drop, ℤ, Ok, Err, Result}
+use Rattle.std.specs.Prelude.{◌≡◌, ℕ, ◌+◌, ◌≤◌, Bool, true, List, ◌∷◌, reverse, length, take, drop, ℤ, Ok, Err, Result}
 use Rattle.script.specs.declared.record.Record.{Record}
 use Rattle.syntax.specs.Typed.{program_of}
 use Rattle.kinds.specs.Counter.{counter}
 use Rattle.treerun.specs.TreeRun.{Setting, State, Outcome, value, returned, ended, BayAnswer, gives, fails, setting_of}
-use Rattle.walk.specs.declared.state.Progress.{Progress}
+use Rattle.racks.specs.Makes.{table_bays}
+use Rattle.walk.specs.declared.walker.Walker.{Walker}
 use Rattle.walk.specs.declared.state.Valued.{Valued}
 use Rattle.walk.specs.declared.state.Stop.{Stop}
 use Rattle.walk.specs.declared.state.Stop.TheVariants.{Returned, Ended}
+use Rattle.script.specs.declared.ending.Ending.{Ending}
 
 -- A bay table can hold every word.
 abbrev pub every : ℤ → Bool
@@ -17,38 +19,57 @@ every w = true
 abbrev pub setting : List Record → ℕ → Setting ℤ
 setting table depth = setting_of counter every (program_of table) depth
 
--- The names, words and bays lent, and how far the walk has come.
+-- The names, words and bays lent, how many bindings stand, and the fuel left.
 pub record Lent : Type 0 where
   pub names : List ℕ
   pub words : List ℤ
   pub bays : List ℤ
-  pub progress : Progress
+  pub bound : ℕ
+  pub fuel : ℕ
 
-abbrev pub lent : List ℕ → List ℤ → List ℤ → Progress → Lent
-lent names words bays progress = record { names = names; words = words; bays = bays; progress = progress }
+abbrev pub lent_in : Walker → Lent
+lent_in w = record {
+  names = w.names.now;
+  words = w.words.now;
+  bays = table_bays w.bays.now;
+  bound = w.bound;
+  fuel = w.fuel;
+}
 
--- How many bindings stand.
-abbrev pub bound : Lent → ℕ
-bound l = l.progress.bound
+-- What no step of a walker changes: its table and depth, whose names, words and bays it was lent, and how many.
+pub record Same (before after : Walker) : Type 0 where
+  pub table : after.table.now ≡ before.table.now
+  pub depth : after.depth ≡ before.depth
+  pub names_lender : after.names.ghost_name ≡ before.names.ghost_name
+  pub words_lender : after.words.ghost_name ≡ before.words.ghost_name
+  pub bays_lender : after.bays.ghost_name ≡ before.bays.ghost_name
+  pub names_length : length after.names.now ≡ length before.names.now
+  pub words_length : length after.words.now ≡ length before.words.now
 
-abbrev pub fuel : Lent → ℕ
-fuel l = l.progress.fuel
+-- How many bindings and how much fuel there are after `many` more bindings.
+pub record Bound (before after : Walker) (many : ℕ) : Type 0 where
+  pub count : after.bound ≡ before.bound + many
+  pub fuel : after.fuel ≡ before.fuel
 
 -- The first names and words are the bindings, oldest first; behind them is what dropped bindings have left.
 abbrev pub state : Lent → State ℤ
 state l = record {
-  names = reverse (take (bound l) l.names);
-  words = reverse (take (bound l) l.words);
-  past_names = drop (bound l) l.names;
-  past_words = drop (bound l) l.words;
+  names = reverse (take l.bound l.names);
+  words = reverse (take l.bound l.words);
+  past_names = drop l.bound l.names;
+  past_words = drop l.bound l.words;
   bays = l.bays;
-  fuel = fuel l;
+  fuel = l.fuel;
 }
+
+-- The run ends at a record.
+abbrev pub ended_at : Ending → ℕ → Stop
+ended_at ending place = Ended (record { ending = ending; place = place })
 
 -- Where a part has no value.
 abbrev pub stopped : {A : Type 0} → Stop → State ℤ → Outcome ℤ A
 stopped (Returned w) σ = returned w σ
-stopped (Ended e place) σ = ended e place σ
+stopped (Ended e) σ = ended e.ending e.place σ
 
 -- What a walk answers, as an outcome of the tree run: `means` says what value an answer stands for.
 abbrev pub shown : {A B : Type 0} → (B → A) → Result B Stop → State ℤ → Outcome ℤ A
@@ -57,9 +78,9 @@ shown means (Err s) σ = stopped s σ
 
 -- The bindings: as many as before where there is a value; no fewer where there is none, and all within the slices.
 abbrev pub Kept : {B : Type 0} → Result B Stop → Lent → Lent → Type 0
-Kept (Ok b) before after = bound after ≡ bound before
+Kept (Ok b) before after = after.bound ≡ before.bound
 Kept (Err s) before after =
-    (bound before ≤ bound after) × (bound after ≤ length after.names) × (bound after ≤ length after.words)
+    (before.bound ≤ after.bound) × (after.bound ≤ length after.names) × (after.bound ≤ length after.words)
 
 -- Where there is a value, the index after the part is told.
 abbrev pub Ends : {B : Type 0} → Result B Stop → (B → ℕ) → ℕ → Type 0
@@ -70,7 +91,7 @@ Ends (Err s) next end = Unit {0}
 pub record Ran {A B : Type 0} (run : Outcome ℤ A) (r : Result B Stop) (means : B → A) (next : B → ℕ) (end : ℕ)
     (before after : Lent) : Type 0 where
   pub runs : run ≡ shown means r (state after)
-  pub fuel : fuel after ≤ fuel before
+  pub fuel : after.fuel ≤ before.fuel
   pub kept : Kept r before after
   pub ends : Ends r next end
 
@@ -91,7 +112,7 @@ RanParts run r a end before after = Ran run r (λ n. a) (λ n. n) end before aft
 -- What a bay answers, at a place, and the bays as they then are.
 abbrev pub answer_at : ℕ → BayAnswer ℤ → Result ℤ Stop
 answer_at place (gives w bays) = Ok w
-answer_at place (fails e) = Err (Ended e place)
+answer_at place (fails e) = Err (ended_at e place)
 
 abbrev pub bays_after : List ℤ → BayAnswer ℤ → List ℤ
 bays_after before (gives w bays) = bays

@@ -1,17 +1,15 @@
 -- When a part of a table can be walked: the table was accepted, the part stands there, and the slices have room for it.
-use Rattle.std.specs.Prelude.{◌≡◌, ℕ, ◌+◌, ◌-◌, ◌*◌, ◌<◌, ◌≤◌, List, length, replicate, Some, None, Option}
+use Rattle.std.specs.Prelude.{◌≡◌, ℕ, ◌+◌, ◌-◌, ◌*◌, ◌<◌, ◌≤◌, List, length, replicate, Some, None, Option, slice_index_or}
 use Rattle.script.specs.declared.record.Record.{Record}
 use Rattle.script.specs.declared.rows.NodeKind.{NodeKind}
 use Rattle.script.specs.declared.rows.NodeKind.TheVariants.{Function as FunctionKind}
 use Rattle.script.specs.declared.rows.Sort.TheVariants.{Expression as ExpressionSort, Statement as StatementSort, Declaration as DeclarationSort, Program as ProgramSort}
 use Rattle.syntax.specs.Syntax.{Function, functions_of, globals_of, global_names}
-use Rattle.syntax.specs.Trees.{tree_at, pieces, Sound, Sounds, Part}
+use Rattle.syntax.specs.Trees.{no_record, tree_at, pieces, sizes, Sound, Sounds, Part}
 use Rattle.syntax.specs.Typed.{program_of, expression_at, arguments_at, statement_at, statements_at, function_of, node_at}
 use Rattle.names.specs.Need.{need_expression, need_arguments, need_statement, need_statements, largest_need}
 use Rattle.names.specs.Scoped.{ScopedExpression, ScopedArguments, ScopedStatement, ScopedStatements, WellNamed}
-use Rattle.walk.specs.declared.state.Calls.{Calls}
-use Rattle.walk.specs.declared.state.Progress.{Progress}
-use Rattle.walk.specs.Lent.{Lent, bound}
+use Rattle.walk.specs.Lent.{Lent}
 
 -- A table that was accepted: one sound program, with its names in order.
 pub record Accepted (table : List Record) : Type 0 where
@@ -26,44 +24,48 @@ functions_in table = functions_of (program_of table).declarations
 abbrev pub globals_in : List Record → List ℕ
 globals_in table = global_names (program_of table)
 
+-- The index of a table's main statement, which stands after the declarations.
+abbrev pub main_index : List Record → ℕ
+main_index table = 1 + sizes (pieces table 1 (slice_index_or table 0 no_record).a)
+
 -- The largest frame need of a table.
 abbrev pub need_in : List Record → ℕ
 need_in table = largest_need (program_of table)
 
 -- There is room for a need on top of the bindings, and for a largest frame under each call that may yet be opened.
-pub record Room (table : List Record) (calls : Calls) (need : ℕ) (l : Lent) : Type 0 where
+pub record Room (table : List Record) (depth opened need : ℕ) (l : Lent) : Type 0 where
   pub accepted : Accepted table
-  pub below : calls.opened ≤ calls.depth
-  pub names : bound l + need + (calls.depth - calls.opened) * need_in table ≤ length l.names
-  pub words : bound l + need + (calls.depth - calls.opened) * need_in table ≤ length l.words
+  pub below : opened ≤ depth
+  pub names : l.bound + need + (depth - opened) * need_in table ≤ length l.names
+  pub words : l.bound + need + (depth - opened) * need_in table ≤ length l.words
 
 -- An expression stands at an index, its names are in order under some names of its function, and there is room.
-pub record ReadyExpression (table : List Record) (calls : Calls) (at : ℕ) (l : Lent) : Type 0 where
+pub record ReadyExpression (table : List Record) (depth opened at : ℕ) (l : Lent) : Type 0 where
   pub part : Part table at ExpressionSort
   pub own : List ℕ
   pub scoped : ScopedExpression (globals_in table) (functions_in table) (expression_at table at) own
-  pub room : Room table calls (need_expression (expression_at table at)) l
+  pub room : Room table depth opened (need_expression (expression_at table at)) l
 
 -- The same of `many` arguments, of a statement, and of `many` statements.
-pub record ReadyArguments (table : List Record) (calls : Calls) (at many : ℕ) (l : Lent) : Type 0 where
+pub record ReadyArguments (table : List Record) (depth opened at many : ℕ) (l : Lent) : Type 0 where
   pub inside : at ≤ length table
   pub sound : Sounds (pieces table at many) (replicate many ExpressionSort)
   pub own : List ℕ
   pub scoped : ScopedArguments (globals_in table) (functions_in table) (arguments_at table at many) own
-  pub room : Room table calls (need_arguments (arguments_at table at many) 0) l
+  pub room : Room table depth opened (need_arguments (arguments_at table at many) 0) l
 
-pub record ReadyStatement (table : List Record) (calls : Calls) (at : ℕ) (l : Lent) : Type 0 where
+pub record ReadyStatement (table : List Record) (depth opened at : ℕ) (l : Lent) : Type 0 where
   pub part : Part table at StatementSort
   pub own : List ℕ
   pub scoped : ScopedStatement (globals_in table) (functions_in table) (statement_at table at) own
-  pub room : Room table calls (need_statement (statement_at table at)) l
+  pub room : Room table depth opened (need_statement (statement_at table at)) l
 
-pub record ReadyStatements (table : List Record) (calls : Calls) (at many : ℕ) (l : Lent) : Type 0 where
+pub record ReadyStatements (table : List Record) (depth opened at many : ℕ) (l : Lent) : Type 0 where
   pub inside : at ≤ length table
   pub sound : Sounds (pieces table at many) (replicate many StatementSort)
   pub own : List ℕ
   pub scoped : ScopedStatements (globals_in table) (functions_in table) (statements_at table at many) own
-  pub room : Room table calls (need_statements (statements_at table at many) 0) l
+  pub room : Room table depth opened (need_statements (statements_at table at many) 0) l
 
 -- The record at an index is of a kind.
 abbrev pub Is : NodeKind → List Record → ℕ → Type 0
@@ -79,11 +81,6 @@ pub record Located (table : List Record) (found : Option Function) (at : ℕ) : 
 abbrev pub Finds : List Record → Option Function → Option ℕ → Type 0
 Finds table found None = found ≡ None
 Finds table found (Some at) = Located table found at
-
--- How many bindings and how much fuel there are after `many` more bindings.
-pub record Bound (before after : Progress) (many : ℕ) : Type 0 where
-  pub count : after.bound ≡ before.bound + many
-  pub fuel : after.fuel ≡ before.fuel
 
 -- What a walk that is not refused may rely on: an accepted table, and slices long enough for it.
 pub record Fit (table : List Record) (names words depth : ℕ) : Type 0 where

@@ -67,4 +67,4 @@ walked table names words bays fuel depth =
 abbrev pub report_on : Result Valued Stop → ℕ → Report
 report_on (Ok v) ticks = record { ending = Done; place = 0; answer = Some v.word; ticks = ticks }
 report_on (Err (Returned w)) ticks = record { ending = Done; place = 0; answer = Some w; ticks = ticks }
-report_on (Err (Ended e place)) ticks = record { ending = e; place = place; answer = None; ticks = ticks }
+report_on (Err (Ended e)) ticks = record { ending = e.ending; place = e.place; answer = None; ticks = ticks }

@@ -1,91 +1,74 @@
 // Bindings on top of those that stand, over what dropped ones have left there.
-ghost use Rattle.std.specs.Prelude.{◌≡◌, ◌+◌, ◌<◌, ◌≤◌, List, map, reverse, length, take, drop, ℤ};
+ghost use Rattle.std.specs.Prelude.{◌≡◌, ◌+◌, ◌<◌, ◌≤◌, map, reverse, length};
 ghost use Rattle.kinds.specs.Counter.{counter};
 ghost use Rattle.syntax.specs.Syntax.{name_of};
 ghost use Rattle.syntax.specs.Trees.{pieces, Leaves};
 ghost use Rattle.syntax.specs.Typed.{variables_at};
 ghost use Rattle.treerun.specs.TreeRun.{bind_variables, bind_parameters};
-ghost use Rattle.walk.specs.Lent.{lent, state, pushed};
-ghost use Rattle.walk.specs.Ready.{Bound};
+ghost use Rattle.walk.specs.Lent.{lent_in, state, pushed, Same, Bound};
 
-use crate::state::Progress;
+use crate::walker::Walker;
 use script::Record;
 
-// One binding.
-pub fn push(name: u16, word: i32, names: &mut [u16], words: &mut [i32], progress: &mut Progress)
-    requires names { progress.old.bound < length names.old }
-    requires words { progress.old.bound < length words.old }
-    ensures bound { (bays : List ℤ) →
-        state (lent names.new words.new bays progress.new)
-        ≡ pushed name word (state (lent names.old words.old bays progress.old)) }
-    ensures progress { Bound progress.old progress.new 1 }
-{
-    let top = progress.bound;
-    names[top] = name;
-    words[top] = word;
-    progress.bound = top + 1;
-}
-
-// The variables declared by `count` records from `at`.
-pub fn declare(
-    table: &[Record],
-    at: usize,
-    count: usize,
-    names: &mut [u16],
-    words: &mut [i32],
-    progress: &mut Progress,
-)
-    requires plain { Leaves count (pieces table.now at count) }
-    requires names { progress.old.bound + count ≤ length names.old }
-    requires words { progress.old.bound + count ≤ length words.old }
-    ensures bound { (bays : List ℤ) →
-        state (lent names.new words.new bays progress.new)
-        ≡ bind_variables counter (variables_at table.now at count)
-        (state (lent names.old words.old bays progress.old)) }
-    ensures progress { Bound progress.old progress.new count }
-{
-    if count == 0 {
-        return;
+impl<'a> Walker<'a> {
+    // One binding.
+    pub fn push(&mut self, name: u16, word: i32)
+        requires names { self.old.bound < length self.old.names.now }
+        requires words { self.old.bound < length self.old.words.now }
+        ensures bound { state (lent_in self.new) ≡ pushed name word (state (lent_in self.old)) }
+        ensures progress { Bound self.old self.new 1 }
+        ensures same { Same self.old self.new }
+    {
+        let top = self.bound;
+        self.names[top] = name;
+        self.words[top] = word;
+        self.bound = top + 1;
     }
-    let node = table[at];
-    push(node.a, node.v, names, words, progress);
-    declare(table, at + 1, count - 1, names, words, progress);
-}
 
-// The parameters declared by `count` records from `at`, with the words given from `from` on.
-pub fn bind(
-    table: &[Record],
-    at: usize,
-    count: usize,
-    given: &[i32],
-    from: usize,
-    names: &mut [u16],
-    words: &mut [i32],
-    progress: &mut Progress,
-)
-    requires plain { Leaves count (pieces table.now at count) }
-    requires given { from + count ≤ length given.now }
-    requires names { progress.old.bound + count ≤ length names.old }
-    requires words { progress.old.bound + count ≤ length words.old }
-    ensures bound { (bays : List ℤ) →
-        state (lent names.new words.new bays progress.new)
-        ≡ bind_parameters (map name_of (variables_at table.now at count))
-        (reverse (take count (drop from given.now)))
-        (state (lent names.old words.old bays progress.old)) }
-    ensures progress { Bound progress.old progress.new count }
-{
-    if count == 0 {
-        return;
+    // The variable that a record declares.
+    pub fn declare_one(&mut self, node: Record)
+        requires names { self.old.bound < length self.old.names.now }
+        requires words { self.old.bound < length self.old.words.now }
+        ensures bound { state (lent_in self.new) ≡ pushed node.a node.v (state (lent_in self.old)) }
+        ensures progress { Bound self.old self.new 1 }
+        ensures same { Same self.old self.new }
+    {
+        self.push(node.a, node.v);
     }
-    push(table[at].a, given[from], names, words, progress);
-    bind(
-        table,
-        at + 1,
-        count - 1,
-        given,
-        from + 1,
-        names,
-        words,
-        progress,
-    );
+
+    // The variables declared by `count` records from `at`.
+    pub fn declare(&mut self, at: usize, count: usize)
+        requires inside { at ≤ length self.old.table.now }
+        requires plain { Leaves count (pieces self.old.table.now at count) }
+        requires names { self.old.bound + count ≤ length self.old.names.now }
+        requires words { self.old.bound + count ≤ length self.old.words.now }
+        ensures bound { state (lent_in self.new)
+            ≡ bind_variables counter (variables_at self.old.table.now at count)
+            (state (lent_in self.old)) }
+        ensures progress { Bound self.old self.new count }
+        ensures same { Same self.old self.new }
+    {
+        let table = self.table;
+        for node in &table[at..at + count] {
+            self.declare_one(*node);
+        }
+    }
+
+    // The parameters declared by the records from `at`, with the words given.
+    pub fn bind(&mut self, at: usize, given: &[i32])
+        requires inside { at ≤ length self.old.table.now }
+        requires plain { Leaves (length given.now) (pieces self.old.table.now at (length given.now)) }
+        requires names { self.old.bound + length given.now ≤ length self.old.names.now }
+        requires words { self.old.bound + length given.now ≤ length self.old.words.now }
+        ensures bound { state (lent_in self.new)
+            ≡ bind_parameters (map name_of (variables_at self.old.table.now at (length given.now)))
+            (reverse given.now) (state (lent_in self.old)) }
+        ensures progress { Bound self.old self.new (length given.now) }
+        ensures same { Same self.old self.new }
+    {
+        let table = self.table;
+        for (node, word) in table[at..].iter().zip(given) {
+            self.push(node.a, *word);
+        }
+    }
 }

@@ -5,11 +5,10 @@ use names::laws::name_cases_hold;
 use script::examples::shape_cases_hold;
 use treerun::cases::cases_stand;
 
-pub fn worked_cases_hold() -> u8
+pub fn worked_cases_hold()
     ensures { WorkedCases }
 {
     let _ = shape_cases_hold();
     let _ = name_cases_hold();
     let _ = cases_stand();
-    0
 }

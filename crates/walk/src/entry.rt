@@ -8,7 +8,7 @@ use crate::report::Report;
 use crate::whole::run_table;
 use names::check::check_table;
 use racks::BayTable;
-use script::{Record, Refusal};
+use script::{Limits, Record, Refusal};
 
 // The words that a walk needs.
 fn room(globals: usize, need: usize, depth: u32) -> usize
@@ -20,54 +20,39 @@ fn room(globals: usize, need: usize, depth: u32) -> usize
     globals + (depth as usize + 1) * need
 }
 
-fn in_range(fuel: u32, depth: u32) -> bool
-    ensures { result ≡ (nat_le fuel 1000000 && nat_le depth 63) }
-{
-    fuel <= 1000000 && depth <= 63
-}
-
 fn enough(least: usize, names: usize, words: usize) -> bool
     ensures { result ≡ (nat_le least names && nat_le least words) }
 {
     least <= names && least <= words
 }
 
-// Table, fuel, depth and the slices' lengths.
-fn check_walk(
-    table: &[Record],
-    names: usize,
-    words: usize,
-    fuel: u32,
-    depth: u32,
-) -> Result<(), Refusal>
-    ensures answer { result ≡ walk_rules table.now names words fuel depth }
-    ensures fit { OnOk result (Fit table.now names words depth) }
+// Table, limits and the slices' lengths.
+fn check_walk(table: &[Record], names: usize, words: usize, limits: Limits) -> Result<(), Refusal>
+    ensures answer { result ≡ walk_rules table.now names words limits.fuel limits.depth }
+    ensures fit { OnOk result (Fit table.now names words limits.depth) }
 {
     let summary = check_table(table)?;
-    if !in_range(fuel, depth) {
-        return Err(Refusal::FuelOrDepth);
-    }
-    let least = room(summary.globals, summary.need, depth);
+    limits.check()?;
+    let least = room(summary.globals, summary.need, limits.depth);
     if !enough(least, names, words) {
         return Err(Refusal::TooFewWords(least));
     }
     Ok(())
 }
 
-// The tree run of a table at the counter kind, with this much fuel and at most `depth` calls open at once.
+// The tree run of a table at the counter kind, within the limits.
 // The slices then hold the bindings, oldest first; dropped ones stay until they are overwritten.
 pub fn walk(
     table: &[Record],
     names: &mut [u16],
     words: &mut [i32],
     bays: &mut BayTable,
-    fuel: u32,
-    depth: u32,
+    limits: Limits,
 ) -> Result<Report, Refusal>
     ensures { leaves result names.new words.new (table_bays bays.new)
         ≡ walked table.now names.old words.old
-        (table_bays bays.old) fuel depth }
+        (table_bays bays.old) limits.fuel limits.depth }
 {
-    check_walk(table, names.len(), words.len(), fuel, depth)?;
-    Ok(run_table(table, names, words, bays, fuel, depth as usize))
+    check_walk(table, names.len(), words.len(), limits)?;
+    Ok(run_table(table, names, words, bays, limits))
 }

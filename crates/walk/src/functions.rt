@@ -6,36 +6,28 @@ ghost use Rattle.syntax.specs.Trees.{pieces, Sounds};
 ghost use Rattle.syntax.specs.Typed.{declarations_at};
 ghost use Rattle.walk.specs.Ready.{Accepted, Finds, functions_in};
 
-use crate::numbers::node_of;
 use crate::skip::skip;
 use script::Record;
 use script::rows::NodeKind;
+use syntax::parts::node_kind;
 
-// Its record, among `count` declarations from `at`.
-fn among(table: &[Record], count: usize, at: usize, name: u16) -> Option<usize>
-    requires { Sounds (pieces table.now at count) (replicate count Declaration) }
-    ensures { Finds table.now
-        (function_named name (functions_of (declarations_at table.now at count))) result }
-{
-    if count == 0 {
-        return None;
-    }
-    let node = table[at];
-    match node_of(node.kind) {
-        NodeKind::Function => {
-            if name == node.a {
-                return Some(at);
-            }
-            let next = skip(table, at);
-            among(table, count - 1, next, name)
-        }
-        _ => among(table, count - 1, at + 1, name),
-    }
-}
-
+// Its record.
 pub fn function(table: &[Record], name: u16) -> Option<usize>
     requires { Accepted table.now }
     ensures { Finds table.now (function_named name (functions_in table.now)) result }
 {
-    among(table, table[0].a as usize, 1, name)
+    let mut at = 1;
+    for _ in 0..table[0].a {
+        let node = table[at];
+        match node_kind(node) {
+            NodeKind::Function => {
+                if name == node.a {
+                    return Some(at);
+                }
+                at = skip(table, at);
+            }
+            _ => at += 1,
+        }
+    }
+    None
 }

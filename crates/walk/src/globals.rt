@@ -1,55 +1,45 @@
 // The global variables of a program.
-ghost use Rattle.std.specs.Prelude.{◌≡◌, ◌+◌, ◌≤◌, List, length, replicate, ℤ};
+ghost use Rattle.std.specs.Prelude.{◌≡◌, ◌+◌, ◌≤◌, length};
 ghost use Rattle.kinds.specs.Counter.{counter};
-ghost use Rattle.script.specs.declared.rows.Sort.TheVariants.{Declaration};
-ghost use Rattle.syntax.specs.Syntax.{variables_of};
-ghost use Rattle.syntax.specs.Trees.{pieces, sizes, Sounds};
-ghost use Rattle.syntax.specs.Typed.{declarations_at};
+ghost use Rattle.syntax.specs.Syntax.{globals_of};
+ghost use Rattle.syntax.specs.Typed.{program_of};
 ghost use Rattle.treerun.specs.TreeRun.{bind_variables};
-ghost use Rattle.walk.specs.Lent.{lent, state};
-ghost use Rattle.walk.specs.Ready.{Bound};
+ghost use Rattle.walk.specs.Lent.{lent_in, state, Same, Bound};
+ghost use Rattle.walk.specs.Ready.{Accepted, main_index};
 
-use crate::bind::push;
-use crate::numbers::node_of;
 use crate::skip::skip;
-use crate::state::Progress;
-use script::Record;
+use crate::walker::Walker;
 use script::rows::NodeKind;
+use syntax::parts::node_kind;
 
-// Binds the variables among `count` declarations from `at`; the index after the declarations.
-pub fn globals(
-    table: &[Record],
-    count: usize,
-    at: usize,
-    names: &mut [u16],
-    words: &mut [i32],
-    progress: &mut Progress,
-) -> usize
-    requires sound { Sounds (pieces table.now at count) (replicate count Declaration) }
-    requires names { progress.old.bound + length (variables_of (declarations_at table.now at count)) ≤ length
-        names.old }
-    requires words { progress.old.bound + length (variables_of (declarations_at table.now at count)) ≤ length
-        words.old }
-    ensures bound { (bays : List ℤ) →
-        state (lent names.new words.new bays progress.new)
-        ≡ bind_variables counter (variables_of (declarations_at table.now at count))
-        (state (lent names.old words.old bays progress.old)) }
-    ensures progress { Bound progress.old progress.new
-        (length (variables_of (declarations_at table.now at count))) }
-    ensures next { result ≡ at + sizes (pieces table.now at count) }
-{
-    if count == 0 {
-        return at;
-    }
-    let node = table[at];
-    match node_of(node.kind) {
-        NodeKind::Function => {
-            let next = skip(table, at);
-            globals(table, count - 1, next, names, words, progress)
+impl<'a> Walker<'a> {
+    // Binds the global variables; the index after the declarations.
+    pub fn globals(&mut self) -> usize
+        requires accepted { Accepted self.old.table.now }
+        requires names { self.old.bound + length (globals_of (program_of self.old.table.now)) ≤ length
+            self.old.names.now }
+        requires words { self.old.bound + length (globals_of (program_of self.old.table.now)) ≤ length
+            self.old.words.now }
+        ensures bound { state (lent_in self.new)
+            ≡ bind_variables counter (globals_of (program_of self.old.table.now))
+            (state (lent_in self.old)) }
+        ensures progress { Bound self.old self.new
+            (length (globals_of (program_of self.old.table.now))) }
+        ensures same { Same self.old self.new }
+        ensures next { result ≡ main_index self.old.table.now }
+    {
+        let table = self.table;
+        let mut at = 1;
+        for _ in 0..table[0].a {
+            let node = table[at];
+            match node_kind(node) {
+                NodeKind::Function => at = skip(table, at),
+                _ => {
+                    self.declare_one(node);
+                    at += 1;
+                }
+            }
         }
-        _ => {
-            push(node.a, node.v, names, words, progress);
-            globals(table, count - 1, at + 1, names, words, progress)
-        }
+        at
     }
 }

@@ -1,17 +1,10 @@
-// The operations of the counter kind by their operator, and what a record is.
+// The operations of the counter kind by their operator.
 ghost use Rattle.std.specs.Prelude.{◌≡◌};
 ghost use Rattle.kinds.specs.Counter.{counter};
-ghost use Rattle.script.specs.Rows.{node_of};
 ghost use Rattle.treerun.specs.TreeRun.{apply as applied};
 
 use kinds::NumberKind;
-use script::rows::{NodeKind, Operator, row_of};
-
-pub fn node_of(kind: u8) -> NodeKind
-    ensures { result ≡ node_of kind }
-{
-    row_of(kind).node
-}
+use script::rows::Operator;
 
 pub fn apply(operator: Operator, x: i32, y: i32) -> i32
     ensures { result ≡ applied counter operator x y }

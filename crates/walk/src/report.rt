@@ -3,8 +3,9 @@ ghost use Rattle.std.specs.Prelude.{◌≡◌, Ok};
 ghost use Rattle.walk.specs.Walked.{report_on};
 
 use crate::state::{Stop, Valued};
-use script::ending::Ending;
+use script::Ending;
 
+// The ending and the place stand here as a report tells them, and not as one field.
 #[derive(Clone, Copy)]
 pub struct Report {
     pub ending: Ending,
@@ -21,14 +22,12 @@ pub fn report_on(outcome: Result<Valued, Stop>, ticks: u32) -> Report
 {
     match outcome {
         Ok(value) => done(value.word, ticks),
-        Err(stop) => match stop {
-            Stop::Returned(word) => done(word, ticks),
-            Stop::Ended(ending, place) => Report {
-                ending,
-                place,
-                answer: None,
-                ticks,
-            },
+        Err(Stop::Returned(word)) => done(word, ticks),
+        Err(Stop::Ended(end)) => Report {
+            ending: end.ending,
+            place: end.place,
+            answer: None,
+            ticks,
         },
     }
 }

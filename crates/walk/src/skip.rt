@@ -1,16 +1,9 @@
 // Where a part that does not run ends.
 ghost use Rattle.std.specs.Prelude.{◌≡◌, ℕ, ◌+◌, ◌<◌, ◌≤◌, length};
-ghost use Rattle.syntax.specs.Trees.{tree_at, pieces, size, sizes, arity};
+ghost use Rattle.syntax.specs.Trees.{tree_at, pieces, size, sizes};
 
 use script::Record;
-use script::rows::row_of;
-
-fn parts_of(node: Record) -> usize
-    ensures { result ≡ arity node }
-{
-    let row = row_of(node.kind);
-    row.first.count.of(node) + row.second.count.of(node)
-}
+use script::rows::part_count;
 
 // The index after `count` parts from `at`.
 fn past(table: &[Record], count: usize, at: usize) -> usize
@@ -24,7 +17,7 @@ fn past(table: &[Record], count: usize, at: usize) -> usize
     if at >= table.len() {
         return at;
     }
-    let next = past(table, parts_of(table[at]), at + 1);
+    let next = past(table, part_count(table[at]), at + 1);
     past(table, count - 1, next)
 }
 

@@ -1,44 +1,47 @@
-// A name means its newest binding: the first `bound` names and words are the bindings, oldest first.
-ghost use Rattle.std.specs.Prelude.{◌≡◌, ◌≤◌, reverse, length, take, drop, pos};
-ghost use Rattle.treerun.specs.TreeRun.{look_up, store};
-ghost use Rattle.walk.specs.Newest.{Newest};
+// A name means its newest binding.
+ghost use Rattle.std.specs.Prelude.{◌≡◌, ◌<◌, ◌≤◌, length, pos, IfSome};
+ghost use Rattle.syntax.specs.Syntax.{locate};
+ghost use Rattle.treerun.specs.TreeRun.{look_up, store, with_words};
+ghost use Rattle.walk.specs.Lent.{lent_in, state, Same, Bound};
 
-fn newest(names: &[u16], bound: usize, name: u16) -> Option<usize>
-    requires { bound ≤ length names.now }
-    ensures { Newest names.now bound name result }
-{
-    let mut i = bound;
-    while i > 0 {
-        i -= 1;
-        if names[i] == name {
-            return Some(i);
+use crate::walker::Walker;
+use names::find::find;
+
+impl<'a> Walker<'a> {
+    // The place of a name's newest binding.
+    fn place(&self, name: u16) -> Option<usize>
+        requires { self.now.bound ≤ length self.now.names.now }
+        ensures place { result ≡ locate name (state (lent_in self.now)).names }
+        ensures below { IfSome result (λ i. i < self.now.bound) }
+    {
+        find(&self.names[..self.bound], name)
+    }
+
+    // The word of a name.
+    pub fn word_of(&self, name: u16) -> i32
+        requires names { self.now.bound ≤ length self.now.names.now }
+        requires words { self.now.bound ≤ length self.now.words.now }
+        ensures { result ≡ look_up (pos 0) name (state (lent_in self.now)).names
+            (state (lent_in self.now)).words }
+    {
+        match self.place(name) {
+            Some(i) => self.words[i],
+            None => 0,
         }
     }
-    None
-}
 
-// The word of a name.
-pub fn word_of(names: &[u16], words: &[i32], bound: usize, name: u16) -> i32
-    requires names { bound ≤ length names.now }
-    requires words { bound ≤ length words.now }
-    ensures { result ≡ look_up (pos 0) name (reverse (take bound names.now))
-        (reverse (take bound words.now)) }
-{
-    match newest(names, bound, name) {
-        Some(i) => words[i],
-        None => 0,
-    }
-}
-
-// A name's binding gets a word.
-pub fn assign(names: &[u16], words: &mut [i32], bound: usize, name: u16, word: i32)
-    requires names { bound ≤ length names.now }
-    requires words { bound ≤ length words.old }
-    ensures bindings { reverse (take bound words.new)
-        ≡ store name word (reverse (take bound names.now)) (reverse (take bound words.old)) }
-    ensures behind { drop bound words.new ≡ drop bound words.old }
-{
-    if let Some(i) = newest(names, bound, name) {
-        words[i] = word;
+    // A name's binding gets a word.
+    pub fn assign(&mut self, name: u16, word: i32)
+        requires names { self.old.bound ≤ length self.old.names.now }
+        requires words { self.old.bound ≤ length self.old.words.now }
+        ensures bindings { state (lent_in self.new)
+            ≡ with_words (store name word (state (lent_in self.old)).names (state (lent_in self.old)).words)
+            (state (lent_in self.old)) }
+        ensures progress { Bound self.old self.new 0 }
+        ensures same { Same self.old self.new }
+    {
+        if let Some(i) = self.place(name) {
+            self.words[i] = word;
+        }
     }
 }

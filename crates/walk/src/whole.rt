@@ -8,12 +8,10 @@ ghost use Rattle.walk.specs.Lent.{every};
 ghost use Rattle.walk.specs.Ready.{Accepted};
 ghost use Rattle.walk.specs.Walked.{room_for, leaves, walked_by};
 
-use crate::globals::globals;
 use crate::report::{Report, report_on};
-use crate::ring::statement;
-use crate::state::{Calls, Progress};
+use crate::walker::Walker;
 use racks::BayTable;
-use script::Record;
+use script::{Limits, Record};
 
 // Binds the globals and runs the program's statement.
 pub fn run_table(
@@ -21,20 +19,25 @@ pub fn run_table(
     names: &mut [u16],
     words: &mut [i32],
     bays: &mut BayTable,
-    fuel: u32,
-    depth: usize,
+    limits: Limits,
 ) -> Report
     requires accepted { Accepted table.now }
-    requires names { room_for (program_of table.now) depth ≤ length names.old }
-    requires words { room_for (program_of table.now) depth ≤ length words.old }
+    requires names { room_for (program_of table.now) limits.depth ≤ length names.old }
+    requires words { room_for (program_of table.now) limits.depth ≤ length words.old }
     ensures { leaves (Ok result) names.new words.new (table_bays bays.new)
-        ≡ walked_by fuel (run_program counter every (program_of table.now) depth
-        (unbound names.old words.old (table_bays bays.old) fuel)) }
+        ≡ walked_by limits.fuel (run_program counter every (program_of table.now) limits.depth
+        (unbound names.old words.old (table_bays bays.old) limits.fuel)) }
 {
-    let mut progress = Progress { bound: 0, fuel };
-    let count = table[0].a as usize;
-    let main = globals(table, count, 1, names, words, &mut progress);
-    let calls = Calls { opened: 0, depth };
-    let outcome = statement(table, main, calls, names, words, bays, &mut progress);
-    report_on(outcome, fuel - progress.fuel)
+    let mut walker = Walker {
+        table,
+        depth: limits.depth as usize,
+        names,
+        words,
+        bays,
+        bound: 0,
+        fuel: limits.fuel,
+    };
+    let main = walker.globals();
+    let outcome = walker.statement(main, 0);
+    report_on(outcome, limits.fuel - walker.fuel)
 }

@@ -1,12 +1,17 @@
 // What can be done with a translation.
-ghost use Rattle.std.specs.Prelude.{◌≡◌, ◌*◌, ◌≤◌, length, IfOk};
-ghost use Rattle.names.specs.Tables.{table_rules};
-ghost use Rattle.translator.specs.Translations.{held, nothing_held, translated};
+ghost use Rattle.std.specs.Prelude.{◌≡◌, ◌*◌, ◌≤◌, map, length, IfOk};
+ghost use Rattle.script.specs.declared.rows.Sort.TheVariants.{Program};
+ghost use Rattle.syntax.specs.Syntax.{name_of, functions_of, globals_of};
+ghost use Rattle.syntax.specs.Trees.{Part};
+ghost use Rattle.syntax.specs.Typed.{program_of};
+ghost use Rattle.names.specs.Names.{signature};
+ghost use Rattle.names.specs.Tables.{main_at, table_rules};
+ghost use Rattle.translator.specs.Translations.{held, nothing_held, translated, translation_of};
 
-use crate::functions::program;
+use crate::emitter::Emitter;
 use crate::translation::Translation;
-use code::instruction::{FunctionEntry, Instruction};
-use names::{Signature, Summary, check_names};
+use code::instruction::{Code, FunctionEntry, Instruction, Operation};
+use names::{Context, Signature, Summary, check_names};
 use script::shape::check_shape;
 use script::{Record, Refusal};
 use stack::Stack;
@@ -44,16 +49,40 @@ impl Translation {
         let mut globals = Stack::new(&mut names, 0);
         let mut functions = Stack::new(&mut signatures, 0);
         let summary = check_names(table, &mut globals, &mut functions)?;
-        program(
+        let context = Context {
             table,
-            summary.main,
-            globals.live(),
-            functions.live(),
-            &mut self.code,
-            &mut self.entries,
-            &mut self.globals,
-        );
+            globals: globals.live(),
+            functions: functions.live(),
+        };
+        self.fill(context, summary.main);
         Ok(summary)
+    }
+
+    // Writes the code of a whole program, whose statement is at `main`: four instructions a record suffice. Each name in
+    // scope has a record of its own, so there is room for all.
+    fn fill(&mut self, context: Context<'_>, main: usize)
+        requires part { Part context.table.now 0 Program }
+        requires small { length context.table.now ≤ 1024 }
+        requires after { main ≡ main_at context.table.now }
+        requires variables { context.globals.now
+            ≡ map name_of (globals_of (program_of context.table.now)) }
+        requires signatures { context.functions.now
+            ≡ map signature (functions_of (program_of context.table.now).declarations) }
+        ensures made { held self.new ≡ translation_of (program_of context.entry.table.now) }
+        ensures short { length (held self.new).code ≤ 4 * length context.entry.table.now }
+    {
+        self.clear();
+        let mut names: [u16; 1024] = [0; 1024];
+        let mut scope = Stack::new(&mut names, 0);
+        let mut emitter = Emitter {
+            context,
+            scope: &mut scope,
+            code: &mut self.code,
+        };
+        emitter.statement(main, Operation::Halt);
+        emitter.append(Operation::Halt, 0);
+        let count = context.table[0].a as usize;
+        emitter.declarations(count, 1, &mut self.entries, &mut self.globals);
     }
 
     pub fn clear(&mut self)
@@ -62,6 +91,17 @@ impl Translation {
         self.code.clear();
         self.entries.clear();
         self.globals.clear();
+    }
+
+    // The code and the entries together.
+    pub fn program(&self) -> Code<'_>
+        ensures instructions { result.instructions.now ≡ (held self.now).code }
+        ensures entries { result.entries.now ≡ (held self.now).entries }
+    {
+        Code {
+            instructions: self.code.as_slice(),
+            entries: self.entries.as_slice(),
+        }
     }
 
     pub fn code(&self) -> &[Instruction]

@@ -9,21 +9,21 @@ use Rattle.names.proofs.frame.+arguments_expression.Goals as goal
 pub arguments-expression-first-requires : goal.arguments-expression-first-requires
 arguments-expression-first-requires t c =
     let k : 0 < c.args.count = omega arith in
-    let p = firsts c.args.table.now c.args.at c.args.count _ _ k c.requires.sound refl in
-    (omega arith, (p.within, p.first))
+    let p = firsts c.args.table.now c.args.at c.args.count _ _ k c.requires.parts.sound refl in
+    (omega arith, record { within = p.within; sound = p.first })
 
 pub arguments-arguments-rest-requires : goal.arguments-arguments-rest-requires
 arguments-arguments-rest-requires t c =
     let k : 0 < c.args.count = omega arith in
     let p = firsts c.args.table.now c.args.at c.args.count c.expression-first.result.next _ k
-    c.requires.sound c.expression-first.ensures.next in
-    (omega (arith, p.later, p.ends, p.within), (omega arith, (p.others, omega (arith, p.later))))
+    c.requires.parts.sound c.expression-first.ensures.next in
+    (omega (arith, p.later, p.ends, p.within), (record { within = omega arith; sound = p.others }, omega (arith, p.later)))
 
 pub arguments-returns : goal.arguments-returns
 arguments-returns t c =
     let k : 0 < c.args.count = omega arith in
     let p = firsts c.args.table.now c.args.at c.args.count c.expression-first.result.next _ k
-    c.requires.sound c.expression-first.ensures.next in
+    c.requires.parts.sound c.expression-first.ensures.next in
     let e = ap (λ f. need_arguments (arguments_of f) c.args.below) p.parts in
     let s = ap (need_arguments (arguments_at c.args.table.now c.expression-first.result.next
     (c.args.count - 1))) (add-one c.args.below) in
@@ -35,11 +35,11 @@ arguments-returns t c =
           omega arith;
     }
 
-pub expression-arguments-parts-requires : goal.expression-arguments-parts-requires
-expression-arguments-parts-requires t c =
+pub expression-arguments-requires : goal.expression-arguments-requires
+expression-arguments-requires t c =
     let p = expressed c.args.table.now c.args.at _ no_record c.requires.within c.requires.sound
     c.part_count.ensures in
-    (omega arith, (p.within, (p.sound, omega arith)))
+    (omega arith, (record { within = p.within; sound = p.sound }, omega arith))
 
 pub expression-returns : goal.expression-returns
 expression-returns t c =

@@ -10,8 +10,8 @@ use Rattle.names.proofs.frame.+statement_statements.Goals as goal
 pub statement-statements-body-requires : goal.statement-statements-body-requires
 statement-statements-body-requires t c =
     let p = blocked c.args.table.now c.args.at _ _ _ no_record c.requires.within c.requires.sound
-    (sym c.in-Block.ensures) refl c.statement_count.ensures refl in
-    (omega (arith, p.within), (p.within, (p.others, omega arith)))
+    (sym c.in-Block.ensures) refl c.statement_count-count.ensures refl in
+    (omega (arith, p.within), (record { within = p.within; sound = p.others }, omega arith))
 
 pub statement-expression-test-requires : goal.statement-expression-test-requires
 statement-expression-test-requires t c =
@@ -22,21 +22,21 @@ statement-expression-test-requires t c =
 pub statement-statements-body-requires-in_default : goal.statement-statements-body-requires-in_default
 statement-statements-body-requires-in_default t c =
     let p = stated c.args.table.now c.args.at _ c.expression-test.result.next no_record c.requires.within
-    c.requires.sound (λ e. c.in_default.not-Block (c.node_kind.ensures ∙ e)) c.statement_count-in_default.ensures
+    c.requires.sound (λ e. c.in_default.not-Block (c.node_kind.ensures ∙ e)) c.statement_count-count.ensures
     c.expression-test.ensures.next in
-    (omega (arith, p.within), (omega arith, (p.others, omega arith)))
+    (omega (arith, p.within), (record { within = omega arith; sound = p.others }, omega arith))
 
 pub statement-returns-in-Block : goal.statement-returns-in-Block
 statement-returns-in-Block t c =
     let p = blocked c.args.table.now c.args.at _ _ _ no_record c.requires.within c.requires.sound
-    (sym c.in-Block.ensures) refl c.statement_count.ensures refl in
+    (sym c.in-Block.ensures) refl c.statement_count-count.ensures refl in
     let e = block-need _ _ _ _ _ p in
     record { words = omega (arith, e); next = omega (arith, p.whole); bound = omega arith; ends = omega arith }
 
 pub statement-returns-in_default : goal.statement-returns-in_default
 statement-returns-in_default t c =
     let p = stated c.args.table.now c.args.at _ c.expression-test.result.next no_record c.requires.within
-    c.requires.sound (λ e. c.in_default.not-Block (c.node_kind.ensures ∙ e)) c.statement_count-in_default.ensures
+    c.requires.sound (λ e. c.in_default.not-Block (c.node_kind.ensures ∙ e)) c.statement_count-count.ensures
     c.expression-test.ensures.next in
     record {
       words = omega (arith, statement-need _ _ _ _ _ p);
@@ -49,21 +49,21 @@ statement-returns-in_default t c =
 pub statements-statement-first-requires : goal.statements-statement-first-requires
 statements-statement-first-requires t c =
     let k : 0 < c.args.count = omega arith in
-    let p = firsts c.args.table.now c.args.at c.args.count _ _ k c.requires.sound refl in
-    (omega arith, (p.within, p.first))
+    let p = firsts c.args.table.now c.args.at c.args.count _ _ k c.requires.parts.sound refl in
+    (omega arith, record { within = p.within; sound = p.first })
 
 pub statements-statements-rest-requires : goal.statements-statements-rest-requires
 statements-statements-rest-requires t c =
     let k : 0 < c.args.count = omega arith in
     let p = firsts c.args.table.now c.args.at c.args.count c.statement-first.result.next _ k
-    c.requires.sound c.statement-first.ensures.next in
-    (omega (arith, p.later, p.ends, p.within), (omega arith, (p.others, omega (arith, p.later))))
+    c.requires.parts.sound c.statement-first.ensures.next in
+    (omega (arith, p.later, p.ends, p.within), (record { within = omega arith; sound = p.others }, omega (arith, p.later)))
 
 pub statements-returns : goal.statements-returns
 statements-returns t c =
     let k : 0 < c.args.count = omega arith in
     let p = firsts c.args.table.now c.args.at c.args.count c.statement-first.result.next _ k
-    c.requires.sound c.statement-first.ensures.next in
+    c.requires.parts.sound c.statement-first.ensures.next in
     let e = ap (λ f. need_statements (statements_of f) c.args.below) p.parts in
     record {
       words = omega (arith, e);

@@ -1,0 +1,146 @@
+use Rattle.std.proofs.Common.{◌≡◌, ℕ, ◌+◌, ◌<◌, ◌≤◌, length, get_or, sym, refl, ap, ◌∙◌, arith}
+use Rattle.std.proofs.lemmas.Result.{err_from_is_err_and}
+use Rattle.stack.specs.Store.{contents}
+use Rattle.stack.proofs.Contents.{length-contents, contents-cut}
+use Rattle.script.specs.declared.rows.Sort.TheVariants.{Statement}
+use Rattle.syntax.specs.Trees.{no_record}
+use Rattle.syntax.proofs.Expressions.{Firsts, firsts}
+use Rattle.syntax.proofs.Statements.{Blocked, Stated, stated, blocked}
+use Rattle.names.specs.Passes.{checked_expression}
+use Rattle.names.proofs.Blocks.{locals-refused, block-answered, test-refused, plain-answered, first-passed}
+use Rattle.names.proofs.Outcomes.{went}
+use Rattle.names.proofs.Scopes.{dropped}
+use Rattle.names.proofs.context.Context.+statement_statements.Goals as goal
+use Rattle.names.proofs.context.Context.+statement_statements.Goals.{statement-In_ok-first-in-Block, statement-In_ok-next-in_default, statements-In_ok-next}
+
+-- A block past its locals, another statement past its expression, several statements past the first.
+block : (t : ℕ) (c : statement-In_ok-first-in-Block t) →
+    Blocked c.args.self.now.table.now c.args.at (get_or c.args.self.now.table.now c.args.at no_record).a
+    c.statement_count-count.result c.in_ok-first-in-Block.first
+block t c =
+    let w = went _ _ _ c.in_ok-first-in-Block.ensures.answer in
+    blocked c.args.self.now.table.now c.args.at _ _ c.in_ok-first-in-Block.first no_record c.requires.part.within
+    c.requires.part.sound (sym c.in-Block.ensures) refl c.statement_count-count.ensures w.1
+
+plain : (t : ℕ) (c : statement-In_ok-next-in_default t) →
+    Stated c.args.self.now.table.now c.args.at c.statement_count-count.result c.in_ok-next-in_default.next
+    (get_or c.args.self.now.table.now c.args.at no_record)
+plain t c =
+    let w = went _ _ _ c.in_ok-next-in_default.ensures in
+    stated c.args.self.now.table.now c.args.at _ c.in_ok-next-in_default.next no_record c.requires.part.within
+    c.requires.part.sound (λ e. c.in_default.not-Block (c.node_kind.ensures ∙ e)) c.statement_count-count.ensures w.1
+
+several : (t : ℕ) (c : statements-In_ok-next t) →
+    Firsts c.args.self.now.table.now c.args.at c.args.count c.in_ok-next.next Statement
+several t c =
+    let k : 0 < c.args.count = omega arith in
+    let w = went _ _ _ c.in_ok-next.ensures.answer in
+    firsts c.args.self.now.table.now c.args.at c.args.count c.in_ok-next.next _ k c.requires.parts.sound w.1
+
+pub statement-locals-requires : goal.statement-locals-requires
+statement-locals-requires t c =
+    let p = blocked c.args.self.now.table.now c.args.at _ _ _ no_record c.requires.part.within c.requires.part.sound
+    (sym c.in-Block.ensures) refl refl refl in
+    record { within = p.within; sound = p.locals; room = omega (arith, p.within) }
+
+pub statement-returns-in_err-first-in-Block-clause-answer : goal.statement-returns-in_err-first-in-Block-clause-answer
+statement-returns-in_err-first-in-Block-clause-answer t c =
+    let p = blocked c.args.self.now.table.now c.args.at _ _ _ no_record c.requires.part.within c.requires.part.sound
+    (sym c.in-Block.ensures) refl refl refl in
+    let q = err_from_is_err_and c.from_residual.result c.from_residual.ensures.1 in
+    rw (q.1, q.2)
+    (locals-refused c.args.self.now (contents c.args.scope.now) c.args.at _ _ _ p _ c.in_err-first-in-Block.ensures.answer)
+
+pub statement-statements-requires : goal.statement-statements-requires
+statement-statements-requires t c =
+    let w = went _ _ _ c.in_ok-first-in-Block.ensures.answer in
+    let p = block t (goal.at.statement-statements-requires t c).In_ok-first-in-Block in (
+      omega (arith, w.1, p.within),
+      (
+        record { within = p.within; sound = p.others },
+        omega (arith, w.1, c.in_ok-first-in-Block.ensures.height, c.in_ok-first-in-Block.ensures.store),
+      ),
+    )
+
+pub statement-returns-in_err-next-in-Block-clause-answer : goal.statement-returns-in_err-next-in-Block-clause-answer
+statement-returns-in_err-next-in-Block-clause-answer t c =
+    let p = block t (goal.at.statement-returns-in_err-next-in-Block-clause-answer t c).In_ok-first-in-Block in
+    let q = err_from_is_err_and c.from_residual-in_err-next-in-Block.result
+    c.from_residual-in_err-next-in-Block.ensures.1 in
+    rw (q.1, q.2)
+    (block-answered c.args.self.now (contents c.args.scope.now) c.args.at _ _ _ p _ _
+    c.in_ok-first-in-Block.ensures.answer c.in_ok-first-in-Block.ensures.bound c.in_err-next-in-Block.ensures.answer)
+
+pub statement-expression-requires : goal.statement-expression-requires
+statement-expression-requires t c =
+    let p = stated c.args.self.now.table.now c.args.at _ _ no_record c.requires.part.within c.requires.part.sound
+    (λ e. c.in_default.not-Block (c.node_kind.ensures ∙ e)) refl refl in
+    record { within = p.within; sound = p.test_sound }
+
+pub statement-returns-in_err-next-in_default-clause-answer : goal.statement-returns-in_err-next-in_default-clause-answer
+statement-returns-in_err-next-in_default-clause-answer t c =
+    let p = stated c.args.self.now.table.now c.args.at _ _ no_record c.requires.part.within c.requires.part.sound
+    (λ e. c.in_default.not-Block (c.node_kind.ensures ∙ e)) refl refl in
+    let q = err_from_is_err_and c.from_residual-in_err-next-in_default.result
+    c.from_residual-in_err-next-in_default.ensures.1 in
+    rw (q.1, q.2, ← c.live.ensures)
+    (test-refused c.args.self.now c.live.result.now c.args.at _ _ _ p _ c.in_err-next-in_default.ensures)
+
+pub statement-statements-requires-in_default : goal.statement-statements-requires-in_default
+statement-statements-requires-in_default t c =
+    let w = went _ _ _ c.in_ok-next-in_default.ensures in
+    let p = plain t (goal.at.statement-statements-requires-in_default t c).In_ok-next-in_default in
+    (omega (arith, w.1, p.within), (record { within = omega (arith, p.ends); sound = p.others }, omega (arith, w.1)))
+
+pub statement-returns-in_ok-next-in-Block : goal.statement-returns-in_ok-next-in-Block
+statement-returns-in_ok-next-in-Block t c =
+    let p = block t (goal.at.statement-returns-in_ok-next-in-Block t c).In_ok-first-in-Block in
+    let scope = c.args.scope.now in
+    let h₁ = c.in_ok-first-in-Block.ensures.height in
+    let h₂ = c.in_ok-next-in-Block.ensures.scope.height in
+    let mark : c.height-mark.result ≡ scope.height = c.height-mark.ensures in
+    let long : length (contents scope) ≡ c.height-mark.result = length-contents scope (omega arith) ∙ sym mark in
+    let low : c.height-mark.result ≤ c.statements.new.scope.height = omega (arith, h₁, h₂) in
+    let cut = contents-cut c.statements.new.scope c.leave_block.new.scope c.height-mark.result low
+    c.leave_block.ensures.words c.leave_block.ensures.height in
+    record {
+      answer = block-answered c.args.self.now (contents scope) c.args.at _ _ _ p _ _
+          c.in_ok-first-in-Block.ensures.answer c.in_ok-first-in-Block.ensures.bound
+          c.in_ok-next-in-Block.ensures.answer;
+      scope = record {
+        names = dropped (contents scope) _ _ _ _ _ long c.in_ok-first-in-Block.ensures.bound
+            c.in_ok-next-in-Block.ensures.scope.names cut;
+        height = c.leave_block.ensures.height ∙ mark;
+        store = ap length c.leave_block.ensures.words
+            ∙ (c.in_ok-next-in-Block.ensures.scope.store ∙ c.in_ok-first-in-Block.ensures.store);
+      };
+    }
+
+pub statement-returns-in_ok-next-in_default-clause-answer : goal.statement-returns-in_ok-next-in_default-clause-answer
+statement-returns-in_ok-next-in_default-clause-answer t c =
+    let p = plain t (goal.at.statement-returns-in_ok-next-in_default-clause-answer t c).In_ok-next-in_default in
+    plain-answered c.args.self.now (contents c.args.scope.now) c.args.at _ _ _ p _
+    (c.in_ok-next-in_default.ensures ∙ ap (checked_expression c.args.self.now (c.args.at + 1)) c.live.ensures)
+    c.statements-in_default.ensures.answer
+
+pub statements-statement-requires : goal.statements-statement-requires
+statements-statement-requires t c =
+    let k : 0 < c.args.count = omega arith in
+    let p = firsts c.args.self.now.table.now c.args.at c.args.count _ _ k c.requires.parts.sound refl in
+    (omega arith, (record { within = p.within; sound = p.first }, c.requires.room))
+
+pub statements-statements-requires : goal.statements-statements-requires
+statements-statements-requires t c =
+    let p = several t (goal.at.statements-statements-requires t c).In_ok-next in (
+      omega (arith, p.later, p.ends, p.within),
+      (
+        record { within = omega (arith, p.ends); sound = p.others },
+        omega (arith, p.later, c.in_ok-next.ensures.scope.height, c.in_ok-next.ensures.scope.store),
+      ),
+    )
+
+pub statements-returns-clause-answer : goal.statements-returns-clause-answer
+statements-returns-clause-answer t c =
+    let p = several t (goal.at.statements-returns-clause-answer t c).In_ok-next in
+    first-passed c.args.self.now (contents c.args.scope.now) c.args.at _ _ p _ _ c.in_ok-next.ensures.answer
+    c.in_ok-next.ensures.scope.names c.statements.ensures.answer

@@ -1,4 +1,0 @@
-use Rattle.names.proofs.program.+bodies.Given as goal
-
-abbrev pub decreases-bodies : goal.decreases-bodies
-decreases-bodies l = l.count

@@ -1,4 +1,0 @@
-use Rattle.names.proofs.program.+declarations.Given as goal
-
-abbrev pub decreases-declarations : goal.decreases-declarations
-decreases-declarations l = l.count

@@ -1,8 +1,0 @@
-use Rattle.std.proofs.Common.{◌+◌, ◌-◌, ◌*◌, length}
-use Rattle.names.proofs.statements.+statement_statements.Given as goal
-
-abbrev pub decreases-statement : goal.decreases-statement
-decreases-statement l = 2 * (length l.table.now - l.at)
-
-abbrev pub decreases-statements : goal.decreases-statements
-decreases-statements l = 2 * (length l.table.now - l.at) + 1

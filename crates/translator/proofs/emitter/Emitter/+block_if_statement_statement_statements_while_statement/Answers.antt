@@ -1,0 +1,369 @@
+use Rattle.std.proofs.Common.{◌≡◌, ℕ, ◌+◌, ◌-◌, List, [], ◌∷◌, map, reverse, length, vec_items, vec_len, sym, refl, ap, ◌∙◌, arith}
+use Rattle.stack.specs.Store.{contents}
+use Rattle.stack.proofs.Contents.{length-contents, contents-cut}
+use Rattle.syntax.specs.Syntax.{VariableDeclaration, name_of}
+use Rattle.syntax.specs.Trees.{no_record}
+use Rattle.syntax.specs.Typed.{expression_at, statement_at, statements_at, variables_at}
+use Rattle.syntax.proofs.Expressions.{firsts}
+use Rattle.syntax.proofs.Statements.{blocked, bound}
+use Rattle.syntax.proofs.Shapes.{simple-kind, simple-at, return-at, chosen, looped}
+use Rattle.names.proofs.Scopes.{dropped}
+use Rattle.code.specs.declared.instruction.Operation.TheVariants.{Jmp}
+use Rattle.code.specs.Scheme.{op}
+use Rattle.translator.specs.declared.emitter.Emitter.{Emitter}
+use Rattle.translator.specs.Emitting.{SameLoans, Keeps, expression_here}
+use Rattle.translator.proofs.Lists.{joined, put_as, long}
+use Rattle.translator.proofs.Codes.{if-code, while-code, then-code, block-code}
+use Rattle.translator.proofs.Emitters.{same_loans, kept, same_table, expression-kept, statement-kept, statements-kept, statements-under}
+use Rattle.translator.proofs.Steps.{ready, several-ready, halfway, tested, locals, inside}
+use Rattle.translator.proofs.emitter.Emitter.+block_if_statement_statement_statements_while_statement.Goals as goal
+
+pub if_statement-expression-first-requires : goal.if_statement-expression-first-requires
+if_statement-expression-first-requires t c =
+    let p = chosen _ _ _ _ c.requires.part.within c.requires.part.sound c.requires.kind refl refl in
+    record { part = record { within = p.test_within; sound = p.test }; room = omega (arith, p.whole, c.requires.room.code) }
+
+pub if_statement-append-requires : goal.if_statement-append-requires
+if_statement-append-requires t c =
+    let p = chosen _ _ _ _ c.requires.part.within c.requires.part.sound c.requires.kind c.expression-first.ensures.next refl in
+    omega (arith, p.whole, c.requires.room.code, c.expression-first.ensures.keeps.loans.code_capacity)
+
+pub if_statement-statement-second-requires : goal.if_statement-statement-second-requires
+if_statement-statement-second-requires t c =
+    let p = chosen _ _ _ _ c.requires.part.within c.requires.part.sound c.requires.kind c.expression-first.ensures.next refl in
+    let k = kept c.expression-first.ensures.keeps c.append.ensures.keeps in (
+      omega (arith, p.first_within, ap length (same_table _ _ k.loans)),
+      ready k.loans c.requires.room (omega (arith, k.height)) p.first_within p.first (omega (arith, p.whole)),
+    )
+
+pub if_statement-append-requires-2 : goal.if_statement-append-requires-2
+if_statement-append-requires-2 t c =
+    let h = halfway c.requires.part c.requires.kind c.expression-first.ensures.next c.expression-first.ensures.keeps
+    c.append.ensures.keeps c.statement-second.ensures.next c.statement-second.ensures.bound in
+    omega (arith, h.shape.whole, c.requires.room.code, h.keeps.loans.code_capacity, c.statement-second.ensures.keeps.loans.code_capacity)
+
+pub if_statement-statement-next-requires : goal.if_statement-statement-next-requires
+if_statement-statement-next-requires t c =
+    let h = halfway c.requires.part c.requires.kind c.expression-first.ensures.next c.expression-first.ensures.keeps
+    c.append.ensures.keeps c.statement-second.ensures.next c.statement-second.ensures.bound in
+    let k = kept (kept (kept h.keeps c.statement-second.ensures.keeps) c.append-2.ensures.keeps) c.patch.ensures.keeps in (
+      omega (arith, h.shape.second_within, ap length (same_table _ _ k.loans)),
+      ready k.loans c.requires.room (omega (arith, k.height)) h.shape.second_within h.shape.second (omega (arith, h.shape.whole)),
+    )
+
+pub if_statement-returns-clause-items : goal.if_statement-returns-clause-items
+if_statement-returns-clause-items t c =
+    let a : Emitter = c.args.self.now in
+    let h = halfway c.requires.part c.requires.kind c.expression-first.ensures.next c.expression-first.ensures.keeps
+    c.append.ensures.keeps c.statement-second.ensures.next c.statement-second.ensures.bound in
+    let k = kept (kept (kept h.keeps c.statement-second.ensures.keeps) c.append-2.ensures.keeps) c.patch.ensures.keeps in
+    rw h.shape.is
+    (if-code (reverse a.context.globals.now) a.context.functions.now c.args.leave (reverse (contents a.scope.now)) c.args.at
+    (expression_at a.context.table.now (c.args.at + 1)) (statement_at a.context.table.now c.expression-first.result)
+    (statement_at a.context.table.now c.statement-second.result) (vec_items a.code.now)
+    _ _ _ _ _ _ _ (vec_len a.code.now) c.len-test.result (vec_len c.append.new.self.code.now)
+    c.len-skip.result c.len-other.result (vec_len c.patch.new.self.code.now) c.len-end.result _ _
+    (long a.code.now) (long c.expression-first.new.self.code.now ∙ sym c.len-test.ensures)
+    (long c.append.new.self.code.now) (long c.statement-second.new.self.code.now ∙ sym c.len-skip.ensures)
+    (long c.append-2.new.self.code.now ∙ sym c.len-other.ensures) (long c.patch.new.self.code.now)
+    (long c.statement-next.new.self.code.now ∙ sym c.len-end.ensures)
+    c.expression-first.ensures.items c.append.ensures.items
+    (put_as _ c.statement-second.ensures.items (statement-kept a c.append.new.self h.keeps c.args.leave c.expression-first.result))
+    c.append-2.ensures.items c.patch.ensures.items
+    (put_as _ c.statement-next.ensures.items (statement-kept a c.patch.new.self k c.args.leave c.statement-second.result))
+    c.patch-2.ensures.items)
+
+pub if_statement-returns-clause-bound : goal.if_statement-returns-clause-bound
+if_statement-returns-clause-bound t c =
+    let h = halfway c.requires.part c.requires.kind c.expression-first.ensures.next c.expression-first.ensures.keeps
+    c.append.ensures.keeps c.statement-second.ensures.next c.statement-second.ensures.bound in
+    let k = kept (kept (kept h.keeps c.statement-second.ensures.keeps) c.append-2.ensures.keeps) c.patch.ensures.keeps in
+    let b = rw (same_table _ _ k.loans) at c.statement-next.ensures.bound in
+    (omega arith, omega (arith, h.shape.whole))
+
+pub if_statement-returns-clause-next : goal.if_statement-returns-clause-next
+if_statement-returns-clause-next t c =
+    let h = halfway c.requires.part c.requires.kind c.expression-first.ensures.next c.expression-first.ensures.keeps
+    c.append.ensures.keeps c.statement-second.ensures.next c.statement-second.ensures.bound in
+    let k = kept (kept (kept h.keeps c.statement-second.ensures.keeps) c.append-2.ensures.keeps) c.patch.ensures.keeps in
+    let n = rw (same_table _ _ k.loans) at c.statement-next.ensures.next in
+    omega (arith, h.shape.whole)
+
+pub while_statement-append-requires : goal.while_statement-append-requires
+while_statement-append-requires t c =
+    let p = looped _ _ _ c.requires.part.within c.requires.part.sound c.requires.kind refl in
+    omega (arith, p.whole, c.requires.room.code)
+
+pub while_statement-expression-body-requires : goal.while_statement-expression-body-requires
+while_statement-expression-body-requires t c =
+    let p = looped _ _ _ c.requires.part.within c.requires.part.sound c.requires.kind refl in
+    rw (same_table _ _ c.append.ensures.keeps.loans) record {
+      part = record { within = p.test_within; sound = p.test };
+      room = omega (arith, p.whole, c.requires.room.code, c.append.ensures.keeps.loans.code_capacity);
+    }
+
+pub while_statement-append-requires-2 : goal.while_statement-append-requires-2
+while_statement-append-requires-2 t c =
+    let p = looped _ _ _ c.requires.part.within c.requires.part.sound c.requires.kind refl in
+    let m = rw (same_table _ _ c.append.ensures.keeps.loans) at c.expression-body.ensures.len in
+    omega (arith, p.whole, c.requires.room.code, c.append.ensures.keeps.loans.code_capacity, c.expression-body.ensures.keeps.loans.code_capacity)
+
+pub while_statement-statement-next-requires : goal.while_statement-statement-next-requires
+while_statement-statement-next-requires t c =
+    let h = tested c.requires.part c.requires.kind c.append.ensures.keeps c.append.ensures.len c.expression-body.ensures.next
+    c.expression-body.ensures.len c.expression-body.ensures.keeps c.append-2.ensures.keeps in (
+      omega (arith, h.shape.body_within, ap length (same_table _ _ h.keeps.loans)),
+      ready h.keeps.loans c.requires.room (omega (arith, h.keeps.height)) h.shape.body_within h.shape.body (omega (arith, h.shape.whole, h.shape.some, h.len)),
+    )
+
+pub while_statement-append-requires-3 : goal.while_statement-append-requires-3
+while_statement-append-requires-3 t c =
+    let h = tested c.requires.part c.requires.kind c.append.ensures.keeps c.append.ensures.len c.expression-body.ensures.next
+    c.expression-body.ensures.len c.expression-body.ensures.keeps c.append-2.ensures.keeps in
+    let b = rw (same_table _ _ h.keeps.loans) at c.statement-next.ensures.bound in
+    omega (
+      arith,
+      h.shape.whole,
+      h.shape.some,
+      h.len,
+      c.requires.room.code,
+      h.keeps.loans.code_capacity,
+      c.statement-next.ensures.keeps.loans.code_capacity,
+    )
+
+pub while_statement-append-requires-4 : goal.while_statement-append-requires-4
+while_statement-append-requires-4 t c =
+    let h = tested c.requires.part c.requires.kind c.append.ensures.keeps c.append.ensures.len c.expression-body.ensures.next
+    c.expression-body.ensures.len c.expression-body.ensures.keeps c.append-2.ensures.keeps in
+    let b = rw (same_table _ _ h.keeps.loans) at c.statement-next.ensures.bound in
+    omega (
+      arith,
+      h.shape.whole,
+      h.shape.some,
+      h.len,
+      c.requires.room.code,
+      h.keeps.loans.code_capacity,
+      c.statement-next.ensures.keeps.loans.code_capacity,
+    )
+
+pub while_statement-append-requires-5 : goal.while_statement-append-requires-5
+while_statement-append-requires-5 t c =
+    let h = tested c.requires.part c.requires.kind c.append.ensures.keeps c.append.ensures.len c.expression-body.ensures.next
+    c.expression-body.ensures.len c.expression-body.ensures.keeps c.append-2.ensures.keeps in
+    let b = rw (same_table _ _ h.keeps.loans) at c.statement-next.ensures.bound in
+    omega (
+      arith,
+      h.shape.whole,
+      h.shape.some,
+      h.len,
+      c.requires.room.code,
+      h.keeps.loans.code_capacity,
+      c.statement-next.ensures.keeps.loans.code_capacity,
+    )
+
+pub while_statement-returns-clause-items : goal.while_statement-returns-clause-items
+while_statement-returns-clause-items t c =
+    let a : Emitter = c.args.self.now in
+    let h = tested c.requires.part c.requires.kind c.append.ensures.keeps c.append.ensures.len c.expression-body.ensures.next
+    c.expression-body.ensures.len c.expression-body.ensures.keeps c.append-2.ensures.keeps in
+    rw h.shape.is
+    (while-code (reverse a.context.globals.now) a.context.functions.now c.args.leave (reverse (contents a.scope.now)) c.args.at
+    (expression_at a.context.table.now (c.args.at + 1)) (statement_at a.context.table.now c.expression-body.result)
+    (vec_items a.code.now) _ _ _ _ _ _ _ _ (vec_len a.code.now)
+    c.len-test.result (vec_len c.append-2.new.self.code.now) c.len-end.result _
+    (long a.code.now) (long c.expression-body.new.self.code.now ∙ sym c.len-test.ensures)
+    (long c.append-2.new.self.code.now) (long c.append-4.new.self.code.now ∙ sym c.len-end.ensures)
+    c.append.ensures.items
+    (put_as _ c.expression-body.ensures.items (expression-kept a c.append.new.self c.append.ensures.keeps (c.args.at + 1)))
+    c.append-2.ensures.items
+    (put_as _ c.statement-next.ensures.items (statement-kept a c.append-2.new.self h.keeps c.args.leave c.expression-body.result))
+    c.append-3.ensures.items
+    (put_as _ c.append-4.ensures.items (ap (λ (z : ℕ). op c.args.at (Jmp z) ∷ []) c.len-again.ensures))
+    c.patch.ensures.items c.append-5.ensures.items)
+
+pub while_statement-returns-clause-bound : goal.while_statement-returns-clause-bound
+while_statement-returns-clause-bound t c =
+    let h = tested c.requires.part c.requires.kind c.append.ensures.keeps c.append.ensures.len c.expression-body.ensures.next
+    c.expression-body.ensures.len c.expression-body.ensures.keeps c.append-2.ensures.keeps in
+    let b = rw (same_table _ _ h.keeps.loans) at c.statement-next.ensures.bound in
+    (omega (arith, h.len), omega (arith, h.shape.whole, h.shape.some, h.len))
+
+pub while_statement-returns-clause-next : goal.while_statement-returns-clause-next
+while_statement-returns-clause-next t c =
+    let h = tested c.requires.part c.requires.kind c.append.ensures.keeps c.append.ensures.len c.expression-body.ensures.next
+    c.expression-body.ensures.len c.expression-body.ensures.keeps c.append-2.ensures.keeps in
+    let n = rw (same_table _ _ h.keeps.loans) at c.statement-next.ensures.next in
+    omega (arith, h.shape.whole)
+
+pub block-enter-requires : goal.block-enter-requires
+block-enter-requires t c =
+    let p = blocked _ c.args.at _ _ _ no_record c.requires.part.within c.requires.part.sound c.requires.kind refl refl refl in
+    record {
+      within = omega (arith, p.within);
+      sound = p.locals;
+      names = omega (arith, p.within, c.requires.room.names);
+      room = omega (arith, p.whole, c.requires.room.code);
+    }
+
+pub block-statements-next-requires : goal.block-statements-next-requires
+block-statements-next-requires t c =
+    let p = blocked _ c.args.at _ _ _ no_record c.requires.part.within c.requires.part.sound c.requires.kind refl c.statement_count.ensures refl in (
+      omega (arith, p.within, ap length (same_table _ _ c.enter.ensures.loans)),
+      several-ready c.enter.ensures.loans c.requires.room (omega arith) p.within p.others (omega (arith, p.whole)),
+    )
+
+pub block-append_pops-requires : goal.block-append_pops-requires
+block-append_pops-requires t c =
+    let h = inside c.requires.part c.requires.kind c.statement_count.ensures c.enter.ensures.loans c.statements-next.ensures.bound
+    c.statements-next.ensures.keeps in
+    omega (arith, h.shape.whole, h.bound.1, c.requires.room.code, h.capacity)
+
+pub block-append-requires : goal.block-append-requires
+block-append-requires t c =
+    let h = inside c.requires.part c.requires.kind c.statement_count.ensures c.enter.ensures.loans c.statements-next.ensures.bound
+    c.statements-next.ensures.keeps in
+    omega (arith, h.shape.whole, h.bound.1, c.requires.room.code, h.capacity)
+
+pub block-returns-clause-items : goal.block-returns-clause-items
+block-returns-clause-items t c =
+    let a : Emitter = c.args.self.now in
+    let k : ℕ = locals a c.args.at in
+    let ds : List VariableDeclaration = variables_at a.context.table.now (c.args.at + 1) k in
+    let h = inside c.requires.part c.requires.kind c.statement_count.ensures c.enter.ensures.loans c.statements-next.ensures.bound
+    c.statements-next.ensures.keeps in
+    rw h.shape.is
+    (block-code (reverse a.context.globals.now) a.context.functions.now c.args.leave (reverse (contents a.scope.now)) c.args.at ds
+    (statements_at a.context.table.now (c.args.at + 1 + k) c.statement_count.result) (vec_items a.code.now) _ _ _ _
+    (vec_len a.code.now) (vec_len c.enter.new.self.code.now) k c.enter.ensures.len h.shape.many c.enter.ensures.items
+    (put_as _ c.statements-next.ensures.items
+    (statements-under a c.enter.new.self c.enter.ensures.loans c.args.leave (c.args.at + 1 + k) c.statement_count.result c.args.at _
+    (ap reverse c.enter.ensures.bound ∙ bound ds (contents a.scope.now))))
+    c.append_pops.ensures.items c.append.ensures.items)
+
+pub block-returns-clause-bound : goal.block-returns-clause-bound
+block-returns-clause-bound t c =
+    let h = inside c.requires.part c.requires.kind c.statement_count.ensures c.enter.ensures.loans c.statements-next.ensures.bound
+    c.statements-next.ensures.keeps in
+    (omega (arith, h.bound.0), omega (arith, h.shape.whole, h.bound.1))
+
+pub block-returns-clause-keeps : goal.block-returns-clause-keeps
+block-returns-clause-keeps t c =
+    let a : Emitter = c.args.self.now in
+    let e : Emitter = c.append.new.self in
+    let inner : Keeps c.enter.new.self e = kept (kept c.statements-next.ensures.keeps c.append_pops.ensures.keeps) c.append.ensures.keeps in
+    let loans : SameLoans a e = same_loans c.enter.ensures.loans inner.loans in
+    let mark : c.height-mark.result ≡ a.scope.now.height = c.height-mark.ensures in
+    record {
+      loans = record {
+        context = loans.context;
+        scope = loans.scope;
+        code = loans.code;
+        scope_capacity = ap length c.cut.ensures.words ∙ loans.scope_capacity;
+        code_capacity = loans.code_capacity;
+      };
+      names = dropped (contents a.scope.now) (map name_of (variables_at a.context.table.now (c.args.at + 1) (locals a c.args.at)))
+          _ _ _ _ (length-contents a.scope.now (omega (arith, c.requires.room.names, c.requires.part.within)) ∙ sym mark)
+          c.enter.ensures.bound inner.names
+          (contents-cut e.scope.now c.cut.new.self c.height-mark.result (omega (arith, inner.height, mark)) c.cut.ensures.words
+          c.cut.ensures.height);
+      height = c.cut.ensures.height ∙ mark;
+    }
+
+pub block-returns-clause-next : goal.block-returns-clause-next
+block-returns-clause-next t c =
+    let h = inside c.requires.part c.requires.kind c.statement_count.ensures c.enter.ensures.loans c.statements-next.ensures.bound
+    c.statements-next.ensures.keeps in
+    let n = rw (same_table _ _ c.enter.ensures.loans) at c.statements-next.ensures.next in
+    omega (arith, h.shape.whole)
+
+pub statement-expression-next-requires : goal.statement-expression-next-requires
+statement-expression-next-requires t c =
+    let p = return-at _ c.args.at c.requires.part.within c.requires.part.sound (sym c.in-Return.ensures) in
+    record { part = record { within = p.0.test_within; sound = p.0.test }; room = omega (arith, p.0.whole, c.requires.room.code) }
+
+pub statement-append-requires : goal.statement-append-requires
+statement-append-requires t c =
+    let p = return-at _ c.args.at c.requires.part.within c.requires.part.sound (sym c.in-Return.ensures) in
+    omega (arith, p.0.whole, c.requires.room.code, c.expression-next.ensures.keeps.loans.code_capacity)
+
+pub statement-expression-requires : goal.statement-expression-requires
+statement-expression-requires t c =
+    let p = simple-at _ c.args.at c.requires.part.within c.requires.part.sound
+    (simple-kind _ c.args.at c.requires.part.within c.requires.part.sound
+    (λ e. c.in_default.not-Return (c.node_kind.ensures ∙ e)) (λ e. c.in_default.not-If (c.node_kind.ensures ∙ e))
+    (λ e. c.in_default.not-While (c.node_kind.ensures ∙ e)) (λ e. c.in_default.not-Block (c.node_kind.ensures ∙ e))) in
+    record { part = record { within = p.0.test_within; sound = p.0.test }; room = omega (arith, p.0.whole, c.requires.room.code) }
+
+pub statement-returns-in-Return-clause-items : goal.statement-returns-in-Return-clause-items
+statement-returns-in-Return-clause-items t c =
+    let a : Emitter = c.args.self.now in
+    let p = return-at _ c.args.at c.requires.part.within c.requires.part.sound (sym c.in-Return.ensures) in
+    rw p.1 (joined (vec_items a.code.now) (expression_here a (c.args.at + 1)) _ _ _ c.expression-next.ensures.items c.append.ensures.items)
+
+pub statement-returns-in-Return-clause-bound : goal.statement-returns-in-Return-clause-bound
+statement-returns-in-Return-clause-bound t c =
+    let p = return-at _ c.args.at c.requires.part.within c.requires.part.sound (sym c.in-Return.ensures) in
+    (omega arith, omega (arith, p.0.whole))
+
+pub statement-returns-in-Return-clause-next : goal.statement-returns-in-Return-clause-next
+statement-returns-in-Return-clause-next t c =
+    let p = return-at _ c.args.at c.requires.part.within c.requires.part.sound (sym c.in-Return.ensures) in
+    omega (arith, p.0.whole)
+
+pub statement-returns-in_default : goal.statement-returns-in_default
+statement-returns-in_default t c =
+    let p = simple-at _ c.args.at c.requires.part.within c.requires.part.sound
+    (simple-kind _ c.args.at c.requires.part.within c.requires.part.sound
+    (λ e. c.in_default.not-Return (c.node_kind.ensures ∙ e)) (λ e. c.in_default.not-If (c.node_kind.ensures ∙ e))
+    (λ e. c.in_default.not-While (c.node_kind.ensures ∙ e)) (λ e. c.in_default.not-Block (c.node_kind.ensures ∙ e))) in
+    record {
+      items = rw p.1 c.expression.ensures.items;
+      bound = (omega arith, omega (arith, p.0.whole));
+      keeps = c.expression.ensures.keeps;
+      next = omega (arith, p.0.whole);
+    }
+
+pub statements-statement-next-requires : goal.statements-statement-next-requires
+statements-statement-next-requires t c =
+    let p = firsts _ c.args.at c.args.count _ _ (omega arith) c.requires.parts.sound refl in (
+      omega (arith, p.within),
+      (
+        record { within = p.within; sound = p.first },
+        record { table = c.requires.room.table; names = c.requires.room.names; code = omega (arith, p.whole, c.requires.room.code) },
+      ),
+    )
+
+pub statements-statements-requires : goal.statements-statements-requires
+statements-statements-requires t c =
+    let p = firsts _ c.args.at c.args.count _ _ (omega arith) c.requires.parts.sound c.statement-next.ensures.next in
+    let k = kept c.statement-next.ensures.keeps c.append.ensures.keeps in (
+      omega (arith, p.later, p.ends, p.within, ap length (same_table _ _ k.loans)),
+      several-ready k.loans c.requires.room (omega (arith, p.later, k.height)) (omega (arith, p.ends)) p.others (omega (arith, p.whole)),
+    )
+
+pub statements-returns-clause-items : goal.statements-returns-clause-items
+statements-returns-clause-items t c =
+    let a : Emitter = c.args.self.now in
+    let p = firsts _ c.args.at c.args.count _ _ (omega arith) c.requires.parts.sound c.statement-next.ensures.next in
+    let k = kept c.statement-next.ensures.keeps c.append.ensures.keeps in
+    rw p.parts
+    (then-code (reverse a.context.globals.now) a.context.functions.now c.args.leave (reverse (contents a.scope.now)) c.args.place
+    (statement_at a.context.table.now c.args.at) (statements_at a.context.table.now c.statement-next.result (c.args.count - 1))
+    (vec_items a.code.now) _ _ _ (vec_len a.code.now) (vec_len c.append.new.self.code.now) (long a.code.now)
+    (long c.append.new.self.code.now) c.statement-next.ensures.items c.append.ensures.items
+    (put_as _ c.statements.ensures.items
+    (statements-kept a c.append.new.self k c.args.leave c.statement-next.result (c.args.count - 1) c.args.place)))
+
+pub statements-returns-clause-bound : goal.statements-returns-clause-bound
+statements-returns-clause-bound t c =
+    let p = firsts _ c.args.at c.args.count _ _ (omega arith) c.requires.parts.sound c.statement-next.ensures.next in
+    let k = kept c.statement-next.ensures.keeps c.append.ensures.keeps in
+    let b = rw (same_table _ _ k.loans) at c.statements.ensures.bound in
+    (omega arith, omega (arith, p.whole))
+
+pub statements-returns-clause-next : goal.statements-returns-clause-next
+statements-returns-clause-next t c =
+    let p = firsts _ c.args.at c.args.count _ _ (omega arith) c.requires.parts.sound c.statement-next.ensures.next in
+    let k = kept c.statement-next.ensures.keeps c.append.ensures.keeps in
+    let n = rw (same_table _ _ k.loans) at c.statements.ensures.next in
+    omega (arith, p.whole)

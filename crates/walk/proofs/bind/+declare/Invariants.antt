@@ -1,4 +1,0 @@
-use Rattle.walk.proofs.bind.+declare.Given as goal
-
-abbrev pub decreases-declare : goal.decreases-declare
-decreases-declare l = l.count

@@ -1,0 +1,863 @@
+use Rattle.std.proofs.Common.{◌≡◌, ℕ, suc, ◌+◌, ◌-◌, ◌<◌, true, false, List, ◌∷◌, reverse, length, get_or, take, set, ℤ, pos, sym, refl, ap, ◌∙◌, add-one, arith, length-set, w32, SFits, to_z, of_z, rules}
+use Rattle.std.proofs.lemmas.Int.{to_z-of_z}
+use Rattle.std.proofs.lemmas.List.{length-take-le}
+use Rattle.kinds.specs.Counter.{counter}
+use Rattle.script.specs.declared.rows.NodeKind.TheVariants as is
+use Rattle.syntax.specs.Syntax.{no_argument, no_statement}
+use Rattle.syntax.specs.Trees.{tree_at, pieces, sizes, no_record}
+use Rattle.syntax.specs.Typed.{arguments_at, statements_at, function_of, node_at}
+use Rattle.syntax.proofs.Shapes.{simple-kind}
+use Rattle.treerun.specs.TreeRun.{State, value, leave_block, leave_call}
+use Rattle.treerun.specs.Laws.{arguments_run, statement_run, statements_run}
+use Rattle.treerun.proofs.ByRules.{by-rules}
+use Rattle.walk.specs.declared.state.Stop.TheVariants.{Returned, Ended}
+use Rattle.walk.specs.Lent.{Lent, lent_in, state}
+use Rattle.walk.specs.Parts.{setting_in}
+use Rattle.walk.proofs.Bindings.{eqb-true, eqb-ne, rev-set}
+use Rattle.walk.proofs.Rans.{refuses, passes, follows, gives, recast}
+use Rattle.walk.proofs.Readies.{assign-ready, bay-read-ready, two_part_ready, bay_write_ready, call-ready, evaluate-ready, return-ready, while-ready, if-ready}
+use Rattle.walk.proofs.Readies.{first-argument, first-statement, block-ready, same-room, not-all, deeper, enters}
+use Rattle.walk.proofs.Runs.{goes_on, stops, no_fuel, block-stops, too_deep, without-fuel, no-function, call-runs, reads, writes}
+use Rattle.walk.proofs.Runs.{test-stops, test_zero, body-stops, begins-over}
+use Rattle.walk.proofs.States.{dropped}
+use Rattle.walk.proofs.Views.{no-parts, no_other}
+use Rattle.walk.proofs.walker.Walker.+walk.Goals as goal
+use Rattle.walk.proofs.walker.Walker.+walk.Goals.{call-in-Ok, call-in-Err-Returned}
+
+pub expression-expression-requires : goal.expression-expression-requires
+expression-expression-requires t c =
+    let p = two_part_ready _ _ _ _ _ c.requires _ refl _ (sym c.in-TwoPart.ensures) in
+    (omega (arith, p.first.part.within), p.first)
+
+pub expression-returns-in_err-x-in-TwoPart-clause-ran : goal.expression-returns-in_err-x-in-TwoPart-clause-ran
+expression-returns-in_err-x-in-TwoPart-clause-ran t c =
+    let p = two_part_ready _ _ _ _ _ c.requires _ refl _ (sym c.in-TwoPart.ensures) in
+    let k = c.in_err-x-in-TwoPart.ensures.ran in
+    passes _ _ _ c.from_residual.ensures.1 (omega arith)
+    (omega arith) k
+    (rw p.is ((by-rules (setting_in c.args.self.now)).of_binary _ _ _ _ _ _
+    ∙ stops _ _ _ k.runs))
+
+pub expression-expression-requires-in-TwoPart : goal.expression-expression-requires-in-TwoPart
+expression-expression-requires-in-TwoPart t c =
+    let s = c.expression.ensures.same in
+    let k = c.in_ok-x-in-TwoPart.ensures.ran in
+    let p = two_part_ready _ _ _ _ _ c.requires c.in_ok-x-in-TwoPart.x.next k.ends _
+    (sym c.in-TwoPart.ensures) in
+    let r = p.second (lent_in c.expression.new.self)
+    (same-room s k.kept) in
+    rw (s.table, s.depth) (omega (arith, r.part.within, k.ends), r)
+
+pub expression-returns-in_err-y-in-TwoPart-clause-ran : goal.expression-returns-in_err-y-in-TwoPart-clause-ran
+expression-returns-in_err-y-in-TwoPart-clause-ran t c =
+    let s = c.expression.ensures.same in
+    let k = c.in_ok-x-in-TwoPart.ensures.ran in
+    let j = rw (s.table, s.depth) at c.in_err-y-in-TwoPart.ensures.ran in
+    let p = two_part_ready _ _ _ _ _ c.requires c.in_ok-x-in-TwoPart.x.next k.ends _
+    (sym c.in-TwoPart.ensures) in
+    passes _ _ _ c.from_residual-in_err-y-in-TwoPart.ensures.1
+    (omega (arith, k.kept)) k.fuel j
+    (rw p.is ((by-rules (setting_in c.args.self.now)).of_binary _ _ _ _ _ _
+    ∙ (goes_on _ _ _ k.runs ∙ stops _ _ _ j.runs)))
+
+pub expression-expression-requires-in-Assignment : goal.expression-expression-requires-in-Assignment
+expression-expression-requires-in-Assignment t c =
+    let p = assign-ready _ _ _ _ _ c.requires (sym c.in-Assignment.ensures) in
+    (omega (arith, p.part.part.within), p.part)
+
+pub expression-returns-in_err-x-in-Assignment-clause-ran : goal.expression-returns-in_err-x-in-Assignment-clause-ran
+expression-returns-in_err-x-in-Assignment-clause-ran t c =
+    let p = assign-ready _ _ _ _ _ c.requires (sym c.in-Assignment.ensures) in
+    let k = c.in_err-x-in-Assignment.ensures.ran in
+    passes _ _ _ c.from_residual-in_err-x-in-Assignment.ensures.1
+    (omega arith) (omega arith) k
+    (rw p.is ((by-rules (setting_in c.args.self.now)).of_assign _ _ _ _ _
+    ∙ stops _ _ _ k.runs))
+
+pub expression-expression-requires-in-BayRead : goal.expression-expression-requires-in-BayRead
+expression-expression-requires-in-BayRead t c =
+    let p = bay-read-ready _ _ _ _ _ c.requires (sym c.in-BayRead.ensures) in
+    (omega (arith, p.part.part.within), p.part)
+
+pub expression-returns-in_err-x-in-BayRead-clause-ran : goal.expression-returns-in_err-x-in-BayRead-clause-ran
+expression-returns-in_err-x-in-BayRead-clause-ran t c =
+    let p = bay-read-ready _ _ _ _ _ c.requires (sym c.in-BayRead.ensures) in
+    let k = c.in_err-x-in-BayRead.ensures.ran in
+    passes _ _ _ c.from_residual-in_err-x-in-BayRead.ensures.1
+    (omega arith) (omega arith) k
+    (rw p.is ((by-rules (setting_in c.args.self.now)).of_bay_read _ _ _ _
+    ∙ stops _ _ _ k.runs))
+
+pub expression-returns-in_err-word-in-BayRead-clause-ran : goal.expression-returns-in_err-word-in-BayRead-clause-ran
+expression-returns-in_err-word-in-BayRead-clause-ran t c =
+    let p = bay-read-ready _ _ _ _ _ c.requires (sym c.in-BayRead.ensures) in
+    let k = c.in_ok-x-in-BayRead.ensures.ran in
+    let f : SFits w32 c.in_ok-x-in-BayRead.x.word = search rules in
+    let b = simp to_z-of_z at c.in_err-word-in-BayRead.ensures in
+    refuses _ _ _ _ c.from_residual-in_err-word-in-BayRead.ensures.1 k.fuel (omega (arith, k.kept))
+    (omega (arith, k.kept, c.requires.room.names)) (omega (arith, k.kept, c.requires.room.words))
+    (rw p.is ((by-rules (setting_in c.args.self.now)).of_bay_read _ _ _ _
+    ∙ (goes_on _ _ _ k.runs ∙ reads c.args.at _
+    (lent_in c.expression-in-BayRead.new.self) _ b)))
+
+pub expression-expression-requires-in-BayWrite : goal.expression-expression-requires-in-BayWrite
+expression-expression-requires-in-BayWrite t c =
+    let p = bay_write_ready _ _ _ _ _ c.requires _ refl (sym c.in-BayWrite.ensures) in
+    (omega (arith, p.first.part.within), p.first)
+
+pub expression-returns-in_err-x-in-BayWrite-clause-ran : goal.expression-returns-in_err-x-in-BayWrite-clause-ran
+expression-returns-in_err-x-in-BayWrite-clause-ran t c =
+    let p = bay_write_ready _ _ _ _ _ c.requires _ refl (sym c.in-BayWrite.ensures) in
+    let k = c.in_err-x-in-BayWrite.ensures.ran in
+    passes _ _ _ c.from_residual-in_err-x-in-BayWrite.ensures.1
+    (omega arith) (omega arith) k
+    (rw p.is ((by-rules (setting_in c.args.self.now)).of_bay_write _ _ _ _ _
+    ∙ stops _ _ _ k.runs))
+
+pub expression-expression-requires-in-BayWrite-2 : goal.expression-expression-requires-in-BayWrite-2
+expression-expression-requires-in-BayWrite-2 t c =
+    let s = c.expression-in-BayWrite.ensures.same in
+    let k = c.in_ok-x-in-BayWrite.ensures.ran in
+    let p = bay_write_ready _ _ _ _ _ c.requires c.in_ok-x-in-BayWrite.x.next k.ends
+    (sym c.in-BayWrite.ensures) in
+    let r = p.second (lent_in c.expression-in-BayWrite.new.self)
+    (same-room s k.kept) in
+    rw (s.table, s.depth) (omega (arith, r.part.within, k.ends), r)
+
+pub expression-returns-in_err-y-in-BayWrite-clause-ran : goal.expression-returns-in_err-y-in-BayWrite-clause-ran
+expression-returns-in_err-y-in-BayWrite-clause-ran t c =
+    let s = c.expression-in-BayWrite.ensures.same in
+    let k = c.in_ok-x-in-BayWrite.ensures.ran in
+    let j = rw (s.table, s.depth) at c.in_err-y-in-BayWrite.ensures.ran in
+    let p = bay_write_ready _ _ _ _ _ c.requires c.in_ok-x-in-BayWrite.x.next k.ends
+    (sym c.in-BayWrite.ensures) in
+    passes _ _ _ c.from_residual-in_err-y-in-BayWrite.ensures.1
+    (omega (arith, k.kept)) k.fuel j
+    (rw p.is ((by-rules (setting_in c.args.self.now)).of_bay_write _ _ _ _ _
+    ∙ (goes_on _ _ _ k.runs ∙ stops _ _ _ j.runs)))
+
+pub expression-returns-in_err-word-in-BayWrite-clause-ran : goal.expression-returns-in_err-word-in-BayWrite-clause-ran
+expression-returns-in_err-word-in-BayWrite-clause-ran t c =
+    let s = c.expression-in-BayWrite.ensures.same in
+    let k = c.in_ok-x-in-BayWrite.ensures.ran in
+    let j = rw (s.table, s.depth) at c.in_ok-y-in-BayWrite.ensures.ran in
+    let p = bay_write_ready _ _ _ _ _ c.requires c.in_ok-x-in-BayWrite.x.next k.ends
+    (sym c.in-BayWrite.ensures) in
+    let f : SFits w32 c.in_ok-x-in-BayWrite.x.word = search rules in
+    let g : SFits w32 c.in_ok-y-in-BayWrite.y.word = search rules in
+    let b = simp to_z-of_z at c.in_err-word-in-BayWrite.ensures.answer in
+    let d = simp to_z-of_z at c.in_err-word-in-BayWrite.ensures.bays in
+    refuses _ _ _ _ c.from_residual-in_err-word-in-BayWrite.ensures.1 (omega (arith, k.fuel, j.fuel))
+    (omega (arith, k.kept, j.kept))
+    (omega (arith, k.kept, j.kept, c.requires.room.names)) (omega (arith, k.kept, j.kept, c.requires.room.words))
+    (rw p.is ((by-rules (setting_in c.args.self.now)).of_bay_write _ _ _ _ _
+    ∙ (goes_on _ _ _ k.runs ∙ (goes_on _ _ _ j.runs
+    ∙ writes c.args.at _ (lent_in c.expression-in-BayWrite-2.new.self) _ _ b d))))
+
+pub expression-returns-in-Number-clause-ran : goal.expression-returns-in-Number-clause-ran
+expression-returns-in-Number-clause-ran t c =
+    let p = no-parts _ _ c.requires.part is.Number (sym c.in-Number.ensures) refl in
+    let z : ℤ = (get_or c.args.self.now.table.now c.args.at no_record).v in
+    let f : SFits w32 z = search rules in
+    gives _ _ _ _ z _ _ (to_z-of_z w32 z f) (rw p.0
+    ((by-rules (setting_in c.args.self.now)).of_constant _ _ _ _)) (omega arith) refl
+    p.1
+
+pub expression-returns-in-Variable-clause-ran : goal.expression-returns-in-Variable-clause-ran
+expression-returns-in-Variable-clause-ran t c =
+    let p = no-parts _ _ c.requires.part is.Variable (sym c.in-Variable.ensures) refl in
+    let f : SFits w32 c.word_of-word.result = search rules in
+    gives _ _ _ _ _ _ _ (to_z-of_z w32 c.word_of-word.result f ∙ c.word_of-word.ensures)
+    (rw p.0 ((by-rules (setting_in c.args.self.now)).of_variable _ _ _ _))
+    (omega arith) refl p.1
+
+pub expression-returns-in_ok-y-in-TwoPart-clause-ran : goal.expression-returns-in_ok-y-in-TwoPart-clause-ran
+expression-returns-in_ok-y-in-TwoPart-clause-ran t c =
+    let s = c.expression.ensures.same in
+    let k = c.in_ok-x-in-TwoPart.ensures.ran in
+    let j = rw (s.table, s.depth) at c.in_ok-y-in-TwoPart.ensures.ran in
+    let p = two_part_ready _ _ _ _ _ c.requires c.in_ok-x-in-TwoPart.x.next k.ends _
+    (sym c.in-TwoPart.ensures) in
+    let f : SFits w32 c.in_ok-x-in-TwoPart.x.word = search rules in
+    let g : SFits w32 c.in_ok-y-in-TwoPart.y.word = search rules in
+    let h : SFits w32 c.apply-word.result = search rules in
+    gives _ _ _ _ _ _ _ (to_z-of_z w32 c.apply-word.result h ∙ simp to_z-of_z at c.apply-word.ensures)
+    (rw p.is ((by-rules (setting_in c.args.self.now)).of_binary _ _ _ _ _ _
+    ∙ (goes_on _ _ _ k.runs ∙ goes_on _ _ _ j.runs)))
+    (omega (arith, k.fuel, j.fuel)) (j.kept ∙ k.kept) (j.ends ∙ p.ends)
+
+pub expression-returns-in_ok-x-in-Assignment-clause-ran : goal.expression-returns-in_ok-x-in-Assignment-clause-ran
+expression-returns-in_ok-x-in-Assignment-clause-ran t c =
+    let p = assign-ready _ _ _ _ _ c.requires (sym c.in-Assignment.ensures) in
+    let k = c.in_ok-x-in-Assignment.ensures.ran in
+    let f : SFits w32 c.in_ok-x-in-Assignment.x.word = search rules in
+    let b = rw (to_z-of_z w32 c.in_ok-x-in-Assignment.x.word f) at c.assign.ensures.bindings in
+    record {
+      runs = rw p.is ((by-rules (setting_in c.args.self.now)).of_assign _ _ _ _ _
+          ∙ (goes_on _ _ _ k.runs ∙ ap (value c.in_ok-x-in-Assignment.x.word) (sym b)));
+      fuel = omega (arith, k.fuel, c.assign.ensures.progress.fuel);
+      kept = omega (arith, k.kept, c.assign.ensures.progress.count);
+      ends = k.ends ∙ p.ends;
+    }
+
+pub expression-returns-in_ok-word-in-BayRead-clause-ran : goal.expression-returns-in_ok-word-in-BayRead-clause-ran
+expression-returns-in_ok-word-in-BayRead-clause-ran t c =
+    let p = bay-read-ready _ _ _ _ _ c.requires (sym c.in-BayRead.ensures) in
+    let k = c.in_ok-x-in-BayRead.ensures.ran in
+    let f : SFits w32 c.in_ok-x-in-BayRead.x.word = search rules in
+    let g : SFits w32 c.in_ok-word-in-BayRead.word = search rules in
+    let b = simp to_z-of_z at c.in_ok-word-in-BayRead.ensures in
+    gives _ _ _ _ _ _ _ (to_z-of_z w32 c.in_ok-word-in-BayRead.word g)
+    (rw p.is ((by-rules (setting_in c.args.self.now)).of_bay_read _ _ _ _
+    ∙ (goes_on _ _ _ k.runs ∙ reads c.args.at _
+    (lent_in c.expression-in-BayRead.new.self) _ b)))
+    k.fuel k.kept (k.ends ∙ p.ends)
+
+pub expression-returns-in_ok-word-in-BayWrite-clause-ran : goal.expression-returns-in_ok-word-in-BayWrite-clause-ran
+expression-returns-in_ok-word-in-BayWrite-clause-ran t c =
+    let s = c.expression-in-BayWrite.ensures.same in
+    let k = c.in_ok-x-in-BayWrite.ensures.ran in
+    let j = rw (s.table, s.depth) at c.in_ok-y-in-BayWrite.ensures.ran in
+    let p = bay_write_ready _ _ _ _ _ c.requires c.in_ok-x-in-BayWrite.x.next k.ends
+    (sym c.in-BayWrite.ensures) in
+    let f : SFits w32 c.in_ok-x-in-BayWrite.x.word = search rules in
+    let g : SFits w32 c.in_ok-y-in-BayWrite.y.word = search rules in
+    let h : SFits w32 c.in_ok-word-in-BayWrite.word = search rules in
+    let b = simp to_z-of_z at c.in_ok-word-in-BayWrite.ensures.answer in
+    let d = simp to_z-of_z at c.in_ok-word-in-BayWrite.ensures.bays in
+    gives _ _ _ _ _ _ _ (to_z-of_z w32 c.in_ok-word-in-BayWrite.word h)
+    (rw p.is ((by-rules (setting_in c.args.self.now)).of_bay_write _ _ _ _ _
+    ∙ (goes_on _ _ _ k.runs ∙ (goes_on _ _ _ j.runs
+    ∙ writes c.args.at _ (lent_in c.expression-in-BayWrite-2.new.self) _ _ b d))))
+    (omega (arith, k.fuel, j.fuel)) (j.kept ∙ k.kept) (j.ends ∙ p.ends)
+
+pub expression-returns-in_default-clause-ran : goal.expression-returns-in_default-clause-ran
+expression-returns-in_default-clause-ran t c =
+    absurd (no_other _ _ c.requires.part _ c.node_kind.ensures c.in_default.not-Number c.in_default.not-Variable
+    c.in_default.not-TwoPart
+    c.in_default.not-Assignment c.in_default.not-Call c.in_default.not-BayRead c.in_default.not-BayWrite)
+
+pub arguments-returns-then-count-eq0-clause-ran : goal.arguments-returns-then-count-eq0-clause-ran
+arguments-returns-then-count-eq0-clause-ran t c =
+    let z = c.if-count-eq0.true in
+    let e : arguments_at c.args.self.now.table.now c.args.at c.args.count ≡ no_argument =
+    ap (λ (n : ℕ). arguments_at c.args.self.now.table.now c.args.at n) z in
+    let s : sizes (pieces c.args.self.now.table.now c.args.at c.args.count) ≡ 0 =
+    ap (λ (n : ℕ). sizes (pieces c.args.self.now.table.now c.args.at n)) z in
+    let n : c.args.from ≡ c.args.from + c.args.count = omega arith in
+    record {
+      runs = rw e ((by-rules (setting_in c.args.self.now)).of_no_argument _ _ _
+          ∙ ap (λ (n : ℕ). value (reverse (take n c.args.given.now))
+          (state (lent_in c.args.self.now))) n);
+      fuel = omega arith;
+      kept = refl;
+      ends = omega arith;
+    }
+
+pub arguments-expression-requires : goal.arguments-expression-requires
+arguments-expression-requires t c =
+    let p = first-argument _ _ _ _ _ _ c.requires.ready (omega arith) _ refl in
+    (omega arith, p.first)
+
+pub arguments-returns-in_err-x-clause-ran : goal.arguments-returns-in_err-x-clause-ran
+arguments-returns-in_err-x-clause-ran t c =
+    let p = first-argument _ _ _ _ _ _ c.requires.ready (omega arith) _ refl in
+    let k = c.in_err-x.ensures.ran in
+    passes _ _ _ c.from_residual.ensures.1 (omega arith)
+    (omega arith) k
+    (rw p.is ((by-rules (setting_in c.args.self.now)).of_argument _ _ _ _ _
+    ∙ stops _ _ _ k.runs))
+
+pub arguments-arguments-requires : goal.arguments-arguments-requires
+arguments-arguments-requires t c =
+    let s = c.expression.ensures.same in
+    let k = c.in_ok-x.ensures.ran in
+    let p = first-argument _ _ _ _ _ _ c.requires.ready (omega arith) c.in_ok-x.x.next k.ends in
+    let r = p.others (lent_in c.expression.new.self)
+    (same-room s k.kept) in
+    rw (s.table, s.depth) (omega (arith, p.first.part.within, p.later), (r, simp length-set (omega (arith, c.requires.given))))
+
+pub arguments-returns-clause-ran : goal.arguments-returns-clause-ran
+arguments-returns-clause-ran t c =
+    let s = c.expression.ensures.same in
+    let k = c.in_ok-x.ensures.ran in
+    let j = c.arguments.ensures.ran in
+    let p = first-argument _ _ _ _ _ _ c.requires.ready (omega arith) c.in_ok-x.x.next k.ends in
+    let w : ℤ = c.in_ok-x.x.word in
+    let f : SFits w32 c.in_ok-x.x.word = search rules in
+    let gs : List ℤ = c.args.given.now in
+    let x : reverse (take (c.args.from + 1) (set gs c.args.from
+    (to_z w32 (of_z w32 c.in_ok-x.x.word))))
+    ≡ c.in_ok-x.x.word ∷ reverse (take c.args.from gs) =
+    rw (add-one c.args.from, to_z-of_z w32 c.in_ok-x.x.word f)
+    (rev-set gs c.args.from c.in_ok-x.x.word (omega (arith, c.requires.given))) in
+    let n : c.args.from + 1 + (c.args.count - 1) ≡ c.args.from + c.args.count = omega arith in
+    let j' = rw (n, s.table, s.depth) at j in
+    follows _ _ _ k.kept k.fuel p.ends j'
+    (rw p.is ((by-rules (setting_in c.args.self.now)).of_argument _ _ _ _ _
+    ∙ (goes_on _ _ _ k.runs
+    ∙ ap (λ (us : List ℤ). arguments_run (setting_in c.args.self.now)
+    (arguments_at c.args.self.now.table.now c.in_ok-x.x.next (c.args.count - 1))
+    c.args.opened us
+    (state (lent_in c.expression.new.self))) (sym x))))
+
+pub statements-returns-then-count-eq0-clause-ran : goal.statements-returns-then-count-eq0-clause-ran
+statements-returns-then-count-eq0-clause-ran t c =
+    let z = c.if-count-eq0.true in
+    let e : statements_at c.args.self.now.table.now c.args.at c.args.count ≡ no_statement =
+    ap (λ (n : ℕ). statements_at c.args.self.now.table.now c.args.at n) z in
+    let s : sizes (pieces c.args.self.now.table.now c.args.at c.args.count) ≡ 0 =
+    ap (λ (n : ℕ). sizes (pieces c.args.self.now.table.now c.args.at n)) z in
+    record {
+      runs = rw e ((by-rules (setting_in c.args.self.now)).of_no_statement _ _);
+      fuel = omega arith;
+      kept = refl;
+      ends = omega arith;
+    }
+
+pub statements-statement-requires : goal.statements-statement-requires
+statements-statement-requires t c =
+    let p = first-statement _ _ _ _ _ _ c.requires (omega arith) _ refl in
+    (omega arith, p.first)
+
+pub statements-returns-in_err-first-clause-ran : goal.statements-returns-in_err-first-clause-ran
+statements-returns-in_err-first-clause-ran t c =
+    let p = first-statement _ _ _ _ _ _ c.requires (omega arith) _ refl in
+    let k = c.in_err-first.ensures.ran in
+    passes _ _ _ c.from_residual.ensures.1 (omega arith)
+    (omega arith) k
+    (rw p.is ((by-rules (setting_in c.args.self.now)).of_then _ _ _ _
+    ∙ stops _ _ _ k.runs))
+
+pub statements-statements-requires : goal.statements-statements-requires
+statements-statements-requires t c =
+    let s = c.statement.ensures.same in
+    let k = c.in_ok-first.ensures.ran in
+    let p = first-statement _ _ _ _ _ _ c.requires (omega arith) c.in_ok-first.first.next k.ends in
+    let r = p.others (lent_in c.statement.new.self)
+    (same-room s k.kept) in
+    rw (s.table, s.depth) (omega (arith, p.first.part.within, p.later), r)
+
+pub statements-returns-clause-ran : goal.statements-returns-clause-ran
+statements-returns-clause-ran t c =
+    let s = c.statement.ensures.same in
+    let k = c.in_ok-first.ensures.ran in
+    let j = rw (s.table, s.depth) at c.statements.ensures.ran in
+    let p = first-statement _ _ _ _ _ _ c.requires (omega arith) c.in_ok-first.first.next k.ends in
+    follows _ _ _ k.kept k.fuel p.ends j
+    (rw p.is ((by-rules (setting_in c.args.self.now)).of_then _ _ _ _
+    ∙ goes_on _ _ _ k.runs))
+
+pub statement-expression-requires : goal.statement-expression-requires
+statement-expression-requires t c =
+    let p = evaluate-ready _ _ _ _ _ c.requires (sym c.in-ExpressionStatement.ensures) in
+    (omega (arith, p.part.part.within), p.part)
+
+pub statement-expression-requires-in-Return : goal.statement-expression-requires-in-Return
+statement-expression-requires-in-Return t c =
+    let p = return-ready _ _ _ _ _ c.requires (sym c.in-Return.ensures) in
+    (omega (arith, p.part.part.within), p.part)
+
+pub statement-returns-in_err-x-in-Return-clause-ran : goal.statement-returns-in_err-x-in-Return-clause-ran
+statement-returns-in_err-x-in-Return-clause-ran t c =
+    let p = return-ready _ _ _ _ _ c.requires (sym c.in-Return.ensures) in
+    let k = c.in_err-x-in-Return.ensures.ran in
+    passes _ _ _ c.from_residual.ensures.1 (omega arith)
+    (omega arith) k
+    (rw p.is ((by-rules (setting_in c.args.self.now)).of_give_back _ _ _ _
+    ∙ stops _ _ _ k.runs))
+
+pub statement-expression-requires-in-If : goal.statement-expression-requires-in-If
+statement-expression-requires-in-If t c =
+    let p = if-ready _ _ _ _ _ c.requires _ _ refl refl (sym c.in-If.ensures) in
+    (omega (arith, p.test.part.within), p.test)
+
+pub statement-returns-in_err-test-in-If-clause-ran : goal.statement-returns-in_err-test-in-If-clause-ran
+statement-returns-in_err-test-in-If-clause-ran t c =
+    let p = if-ready _ _ _ _ _ c.requires _ _ refl refl (sym c.in-If.ensures) in
+    let k = c.in_err-test-in-If.ensures.ran in
+    passes _ _ _ c.from_residual-in_err-test-in-If.ensures.1 (omega arith) (omega arith) k
+    (rw p.is ((by-rules (setting_in c.args.self.now)).of_if_else _ _ _ _ _ _
+    ∙ stops _ _ _ k.runs))
+
+pub statement-skip-second-requires : goal.statement-skip-second-requires
+statement-skip-second-requires t c =
+    let s = c.expression-in-If.ensures.same in
+    let k = c.in_ok-test-in-If.ensures.ran in
+    rw s.table (if-ready _ _ _ _ _ c.requires c.in_ok-test-in-If.test.next _ k.ends refl
+    (sym c.in-If.ensures)).first_within
+
+pub statement-statement-requires : goal.statement-statement-requires
+statement-statement-requires t c =
+    let s = c.expression-in-If.ensures.same in
+    let k = c.in_ok-test-in-If.ensures.ran in
+    let p = if-ready _ _ _ _ _ c.requires c.in_ok-test-in-If.test.next c.skip-second.result k.ends
+    (rw s.table at c.skip-second.ensures) (sym c.in-If.ensures) in
+    let r = p.second (lent_in c.expression-in-If.new.self)
+    (same-room s k.kept) in
+    rw (s.table, s.depth) (omega (arith, p.second_within, k.ends, rw s.table at c.skip-second.ensures), r)
+
+pub statement-statement-requires-else-is_zero : goal.statement-statement-requires-else-is_zero
+statement-statement-requires-else-is_zero t c =
+    let s = c.expression-in-If.ensures.same in
+    let k = c.in_ok-test-in-If.ensures.ran in
+    let p = if-ready _ _ _ _ _ c.requires c.in_ok-test-in-If.test.next _ k.ends refl
+    (sym c.in-If.ensures) in
+    let r = p.first (lent_in c.expression-in-If.new.self)
+    (same-room s k.kept) in
+    rw (s.table, s.depth) (omega (arith, p.first_within, k.ends), r)
+
+pub statement-returns-in_err-first-in-If-clause-ran : goal.statement-returns-in_err-first-in-If-clause-ran
+statement-returns-in_err-first-in-If-clause-ran t c =
+    let s = c.expression-in-If.ensures.same in
+    let k = c.in_ok-test-in-If.ensures.ran in
+    let j = rw (s.table, s.depth) at c.in_err-first-in-If.ensures.ran in
+    let p = if-ready _ _ _ _ _ c.requires c.in_ok-test-in-If.test.next _ k.ends refl
+    (sym c.in-If.ensures) in
+    let f : SFits w32 c.in_ok-test-in-If.test.word = search rules in
+    let y : counter.zero c.in_ok-test-in-If.test.word ≡ false =
+    sym (simp to_z-of_z at c.if-is_zero.ensures) in
+    passes _ _ _ c.from_residual-in_err-first-in-If.ensures.1 (omega (arith, k.kept)) k.fuel j
+    (rw p.is ((by-rules (setting_in c.args.self.now)).of_if_else _ _ _ _ _ _
+    ∙ (goes_on _ _ _ k.runs ∙ rw y j.runs)))
+
+pub statement-skip-next-requires : goal.statement-skip-next-requires
+statement-skip-next-requires t c =
+    let s = c.expression-in-If.ensures.same in
+    let k = c.in_ok-test-in-If.ensures.ran in
+    let u = c.in_ok-first-in-If.ensures.same in
+    let j = rw (s.table, s.depth) at c.in_ok-first-in-If.ensures.ran in
+    rw (u.table, s.table) (if-ready _ _ _ _ _ c.requires c.in_ok-test-in-If.test.next c.in_ok-first-in-If.first.next k.ends
+    j.ends (sym c.in-If.ensures)).second_within
+
+pub statement-returns-in-ExpressionStatement-clause-ran : goal.statement-returns-in-ExpressionStatement-clause-ran
+statement-returns-in-ExpressionStatement-clause-ran t c =
+    let p = evaluate-ready _ _ _ _ _ c.requires (sym c.in-ExpressionStatement.ensures) in
+    follows _ _ _ refl (omega arith) p.ends c.expression.ensures.ran
+    (rw p.is ((by-rules (setting_in c.args.self.now)).of_evaluate _ _ _ _))
+
+pub statement-returns-in_ok-x-in-Return-clause-ran : goal.statement-returns-in_ok-x-in-Return-clause-ran
+statement-returns-in_ok-x-in-Return-clause-ran t c =
+    let p = return-ready _ _ _ _ _ c.requires (sym c.in-Return.ensures) in
+    let k = c.in_ok-x-in-Return.ensures.ran in
+    let f : SFits w32 c.in_ok-x-in-Return.x.word = search rules in
+    rw (to_z-of_z w32 c.in_ok-x-in-Return.x.word f)
+    record {
+      runs = rw p.is ((by-rules (setting_in c.args.self.now)).of_give_back _ _ _ _
+          ∙ goes_on _ _ _ k.runs);
+      fuel = k.fuel;
+      kept = (
+        omega (arith, k.kept),
+        omega (arith, k.kept, c.requires.room.names),
+        omega (arith, k.kept, c.requires.room.words),
+      );
+      ends = tt;
+    }
+
+pub statement-returns-then-is_zero-clause-ran : goal.statement-returns-then-is_zero-clause-ran
+statement-returns-then-is_zero-clause-ran t c =
+    let s = c.expression-in-If.ensures.same in
+    let k = c.in_ok-test-in-If.ensures.ran in
+    let j = rw (s.table, s.depth) at c.statement.ensures.ran in
+    let p = if-ready _ _ _ _ _ c.requires c.in_ok-test-in-If.test.next c.skip-second.result k.ends
+    (rw s.table at c.skip-second.ensures) (sym c.in-If.ensures) in
+    let f : SFits w32 c.in_ok-test-in-If.test.word = search rules in
+    let y : counter.zero c.in_ok-test-in-If.test.word ≡ true =
+    sym (simp to_z-of_z at c.if-is_zero.ensures) in
+    follows _ _ _ k.kept k.fuel p.ends j
+    (rw p.is ((by-rules (setting_in c.args.self.now)).of_if_else _ _ _ _ _ _
+    ∙ (goes_on _ _ _ k.runs ∙ rw y refl)))
+
+pub statement-returns-in_ok-first-in-If-clause-ran : goal.statement-returns-in_ok-first-in-If-clause-ran
+statement-returns-in_ok-first-in-If-clause-ran t c =
+    let s = c.expression-in-If.ensures.same in
+    let k = c.in_ok-test-in-If.ensures.ran in
+    let u = c.in_ok-first-in-If.ensures.same in
+    let j = rw (s.table, s.depth) at c.in_ok-first-in-If.ensures.ran in
+    let p = if-ready _ _ _ _ _ c.requires c.in_ok-test-in-If.test.next c.in_ok-first-in-If.first.next k.ends
+    j.ends (sym c.in-If.ensures) in
+    let f : SFits w32 c.in_ok-test-in-If.test.word = search rules in
+    let g : SFits w32 c.in_ok-first-in-If.first.word = search rules in
+    let y : counter.zero c.in_ok-test-in-If.test.word ≡ false =
+    sym (simp to_z-of_z at c.if-is_zero.ensures) in
+    gives _ _ _ _ _ _ _ (to_z-of_z w32 c.in_ok-first-in-If.first.word g)
+    (rw p.is ((by-rules (setting_in c.args.self.now)).of_if_else _ _ _ _ _ _
+    ∙ (goes_on _ _ _ k.runs ∙ rw y j.runs)))
+    (omega (arith, k.fuel, j.fuel)) (j.kept ∙ k.kept) (rw (u.table, s.table) at c.skip-next.ensures ∙ p.ends)
+
+pub statement-returns-in_default-clause-ran : goal.statement-returns-in_default-clause-ran
+statement-returns-in_default-clause-ran t c =
+    let b : node_at c.args.self.now.table.now c.args.at ≡ _ = sym c.node_kind.ensures in
+    absurd (c.in_default.not-ExpressionStatement (c.node_kind.ensures
+    ∙ simple-kind _ _ c.requires.part.within c.requires.part.sound
+    (λ e. c.in_default.not-Return (c.node_kind.ensures ∙ e)) (λ e. c.in_default.not-If (c.node_kind.ensures ∙ e))
+    (λ e. c.in_default.not-While (c.node_kind.ensures ∙ e)) (λ e. c.in_default.not-Block (c.node_kind.ensures ∙ e))))
+
+pub repeat-expression-requires : goal.repeat-expression-requires
+repeat-expression-requires t c =
+    let i = c.loop-self.invariant in
+    let s = i.same in
+    let p = while-ready _ _ _ _ _ c.requires.ready _ refl c.requires.kind in
+    let r = p.test (record (lent_in c.loop-self.self) { fuel = c.loop-self.self.fuel - 1 })
+    (record { bindings = i.bound; names = s.names_length; words = s.words_length }) in
+    rw (s.table, s.depth) (omega (arith, r.part.within), r)
+
+pub repeat-returns-in_err-test-clause-ran : goal.repeat-returns-in_err-test-clause-ran
+repeat-returns-in_err-test-clause-ran t c =
+    let i = c.loop-self.invariant in
+    let s = i.same in
+    let k = rw (s.table, s.depth) at c.in_err-test.ensures.ran in
+    let p = while-ready _ _ _ _ _ c.requires.ready _ refl c.requires.kind in
+    let z : c.loop-self.self.fuel ≡ suc (c.loop-self.self.fuel - 1) = omega arith in
+    passes _ _ _ c.from_residual.ensures.1
+    (omega (arith, i.bound)) (omega (arith, i.fuel)) k
+    (i.runs ∙ rw p.is (test-stops c.args.self.now.table.now c.args.self.now.depth
+    c.args.opened c.args.at _ _
+    (state (lent_in c.loop-self.self)) _ (c.loop-self.self.fuel - 1) z _ k.runs))
+
+pub repeat-skip-next-requires : goal.repeat-skip-next-requires
+repeat-skip-next-requires t c =
+    let i = c.loop-self.invariant in
+    let s = i.same in
+    let k = rw (s.table, s.depth) at c.in_ok-test.ensures.ran in
+    let u = c.expression.ensures.same in
+    rw (u.table, s.table) (while-ready _ _ _ _ _ c.requires.ready c.in_ok-test.test.next k.ends c.requires.kind).within
+
+pub repeat-returns-then-is_zero-clause-ran : goal.repeat-returns-then-is_zero-clause-ran
+repeat-returns-then-is_zero-clause-ran t c =
+    let i = c.loop-self.invariant in
+    let s = i.same in
+    let k = rw (s.table, s.depth) at c.in_ok-test.ensures.ran in
+    let p = while-ready _ _ _ _ _ c.requires.ready c.in_ok-test.test.next k.ends c.requires.kind in
+    let f : SFits w32 c.in_ok-test.test.word = search rules in
+    let y : counter.zero c.in_ok-test.test.word ≡ true =
+    sym (simp to_z-of_z at c.if-is_zero.ensures) in
+    let z : c.loop-self.self.fuel ≡ suc (c.loop-self.self.fuel - 1) = omega arith in
+    gives _ _ _ _ _ _ _ refl
+    (i.runs ∙ rw p.is (test_zero c.args.self.now.table.now c.args.self.now.depth
+    c.args.opened c.args.at _ _
+    (state (lent_in c.loop-self.self)) _ (c.loop-self.self.fuel - 1) z _ k.runs y))
+    (omega (arith, i.fuel, k.fuel)) (k.kept ∙ i.bound)
+    (rw (c.expression.ensures.same.table, s.table) at c.skip-next.ensures ∙ p.ends)
+
+pub repeat-statement-requires : goal.repeat-statement-requires
+repeat-statement-requires t c =
+    let i = c.loop-self.invariant in
+    let s = i.same in
+    let k = rw (s.table, s.depth) at c.in_ok-test.ensures.ran in
+    let u = c.expression.ensures.same in
+    let p = while-ready _ _ _ _ _ c.requires.ready c.in_ok-test.test.next k.ends c.requires.kind in
+    let r = p.body (lent_in c.expression.new.self)
+    (record { bindings = k.kept ∙ i.bound; names = u.names_length ∙ s.names_length; words = u.words_length ∙ s.words_length }) in
+    rw (u.table, u.depth, s.table, s.depth) (omega (arith, p.within, k.ends), r)
+
+pub repeat-returns-in_err-_done-clause-ran : goal.repeat-returns-in_err-_done-clause-ran
+repeat-returns-in_err-_done-clause-ran t c =
+    let i = c.loop-self.invariant in
+    let s = i.same in
+    let k = rw (s.table, s.depth) at c.in_ok-test.ensures.ran in
+    let u = c.expression.ensures.same in
+    let j = rw (u.table, u.depth, s.table, s.depth) at c.in_err-_done.ensures.ran in
+    let p = while-ready _ _ _ _ _ c.requires.ready c.in_ok-test.test.next k.ends c.requires.kind in
+    let f : SFits w32 c.in_ok-test.test.word = search rules in
+    let y : counter.zero c.in_ok-test.test.word ≡ false =
+    sym (simp to_z-of_z at c.if-is_zero.ensures) in
+    let z : c.loop-self.self.fuel ≡ suc (c.loop-self.self.fuel - 1) = omega arith in
+    passes _ _ _ c.from_residual-in_err-_done.ensures.1 (omega (arith, k.kept, i.bound))
+    (omega (arith, k.fuel, i.fuel)) j
+    (i.runs ∙ rw p.is (body-stops c.args.self.now.table.now c.args.self.now.depth
+    c.args.opened c.args.at _ _
+    (state (lent_in c.loop-self.self)) _ (c.loop-self.self.fuel - 1) z _ k.runs y _ _
+    j.runs))
+
+pub repeat-loop-self-preserved : goal.repeat-loop-self-preserved
+repeat-loop-self-preserved t c =
+    let i = c.loop-self.invariant in
+    let s = i.same in
+    let k = rw (s.table, s.depth) at c.in_ok-test.ensures.ran in
+    let u = c.expression.ensures.same in
+    let j = rw (u.table, u.depth, s.table, s.depth) at c.in_ok-_done.ensures.ran in
+    let p = while-ready _ _ _ _ _ c.requires.ready c.in_ok-test.test.next k.ends c.requires.kind in
+    let f : SFits w32 c.in_ok-test.test.word = search rules in
+    let y : counter.zero c.in_ok-test.test.word ≡ false =
+    sym (simp to_z-of_z at c.if-is_zero.ensures) in
+    let z : c.loop-self.self.fuel ≡ suc (c.loop-self.self.fuel - 1) = omega arith in
+    record {
+      runs = i.runs ∙ rw p.is (begins-over c.args.self.now.table.now c.args.self.now.depth
+          c.args.opened c.args.at _ _
+          (state (lent_in c.loop-self.self)) _ (c.loop-self.self.fuel - 1) z _ k.runs y _ _
+          j.runs);
+      fuel = omega (arith, i.fuel, k.fuel, j.fuel);
+      bound = j.kept ∙ (k.kept ∙ i.bound);
+      same = search rules;
+    }
+
+pub repeat-returns-clause-ran : goal.repeat-returns-clause-ran
+repeat-returns-clause-ran t c =
+    let i = c.loop-self.invariant in
+    let s = i.same in
+    let p = while-ready _ _ _ _ _ c.requires.ready _ refl c.requires.kind in
+    let r = c.requires.ready.room in
+    rw c.end_at.ensures record {
+      runs = i.runs ∙ rw p.is
+          ((by-rules (setting_in c.args.self.now)).of_while _ _ _ _ _
+          ∙ no_fuel _ (state (lent_in c.loop-self.self)) _ (omega arith));
+      fuel = i.fuel;
+      kept = (
+        omega (arith, i.bound),
+        omega (arith, i.bound, r.names),
+        omega (arith, i.bound, r.words),
+      );
+      ends = tt;
+    }
+
+pub block-declare-requires : goal.block-declare-requires
+block-declare-requires t c =
+    let p = block-ready _ _ _ _ _ _ c.statement_count-count.result c.requires.ready c.requires.kind refl
+    c.statement_count-count.ensures in
+    record { inside = omega (arith, c.requires.ready.part.within); plain = p.plain; names = p.names; words = p.words }
+
+pub block-statements-requires : goal.block-statements-requires
+block-statements-requires t c =
+    let s = c.declare.ensures.same in
+    let p = block-ready _ _ _ _ _ _ c.statement_count-count.result c.requires.ready c.requires.kind refl
+    c.statement_count-count.ensures in
+    let r = p.body (lent_in c.declare.new.self) c.declare.ensures.progress.count s.names_length s.words_length in
+    rw (s.table, s.depth) (omega (arith, c.requires.ready.part.within), r)
+
+pub block-returns-in_err-next-clause-ran : goal.block-returns-in_err-next-clause-ran
+block-returns-in_err-next-clause-ran t c =
+    let s = c.declare.ensures.same in
+    let p = block-ready _ _ _ _ _ _ c.statement_count-count.result c.requires.ready c.requires.kind refl
+    c.statement_count-count.ensures in
+    let k = rw (s.table, s.depth) at c.in_err-next.ensures.ran in
+    let b = ap (λ (σ : State ℤ). statements_run (setting_in c.args.self.now)
+    (statements_at c.args.self.now.table.now (c.args.at + 1 + (get_or c.args.self.now.table.now c.args.at no_record).a)
+    c.statement_count-count.result) c.args.opened σ)
+    (sym c.declare.ensures.bound) in
+    passes _ _ _ c.from_residual.ensures.1
+    (omega (arith, c.declare.ensures.progress.count)) (omega (arith, c.declare.ensures.progress.fuel)) k
+    (rw p.is ((by-rules (setting_in c.args.self.now)).of_block _ _ _ _ _
+    ∙ (ap (leave_block (pos 0) (state (lent_in c.args.self.now))) (b ∙ k.runs)
+    ∙ block-stops (pos 0) (state (lent_in c.args.self.now)) _ _)))
+
+pub block-returns-clause-ran : goal.block-returns-clause-ran
+block-returns-clause-ran t c =
+    let s = c.declare.ensures.same in
+    let p = block-ready _ _ _ _ _ _ c.statement_count-count.result c.requires.ready c.requires.kind refl
+    c.statement_count-count.ensures in
+    let k = rw (s.table, s.depth) at c.in_ok-next.ensures.ran in
+    let e = c.declare.ensures.progress.count in
+    let b = ap (λ (σ : State ℤ). statements_run (setting_in c.args.self.now)
+    (statements_at c.args.self.now.table.now (c.args.at + 1 + (get_or c.args.self.now.table.now c.args.at no_record).a)
+    c.statement_count-count.result) c.args.opened σ)
+    (sym c.declare.ensures.bound) in
+    let x = dropped (lent_in c.args.self.now) (lent_in c.statements.new.self)
+    c.args.self.now.bound refl
+    (omega (arith, k.kept)) (omega (arith, k.kept, p.names, s.names_length, c.statements.ensures.same.names_length))
+    (omega (arith, k.kept, p.words, s.words_length, c.statements.ensures.same.words_length))
+    (omega (arith, p.names)) (omega (arith, p.words)) in
+    gives _ _ _ _ _ _ _ refl
+    (rw p.is ((by-rules (setting_in c.args.self.now)).of_block _ _ _ _ _
+    ∙ (ap (leave_block (pos 0) (state (lent_in c.args.self.now))) (b ∙ k.runs) ∙ ap (value (pos 0)) x)))
+    (omega (arith, k.fuel, c.declare.ensures.progress.fuel)) refl (k.ends ∙ p.ends)
+
+pub call-arguments-requires : goal.call-arguments-requires
+call-arguments-requires t c =
+    let p = call-ready _ _ _ _ _ c.requires.ready c.part_count-count.result c.requires.kind
+    c.part_count-count.ensures in
+    (omega (arith, c.requires.ready.part.within), (p.ready, omega (arith, p.few)))
+
+pub call-returns-in_err-next-clause-ran : goal.call-returns-in_err-next-clause-ran
+call-returns-in_err-next-clause-ran t c =
+    let p = call-ready _ _ _ _ _ c.requires.ready c.part_count-count.result c.requires.kind
+    c.part_count-count.ensures in
+    let k = c.in_err-next.ensures.ran in
+    passes _ _ _ c.from_residual.ensures.1 (omega arith)
+    (omega arith) k
+    (rw p.is ((by-rules (setting_in c.args.self.now)).of_call _ _ _ _ _
+    ∙ stops _ _ _ k.runs))
+
+pub call-returns-in_default-clause-ran : goal.call-returns-in_default-clause-ran
+call-returns-in_default-clause-ran t c =
+    let s = c.arguments.ensures.same in
+    let p = call-ready _ _ _ _ _ c.requires.ready c.part_count-count.result c.requires.kind
+    c.part_count-count.ensures in
+    let k = c.in_ok-next.ensures.ran in
+    gives _ _ _ _ _ _ _ refl
+    (rw p.is ((by-rules (setting_in c.args.self.now)).of_call _ _ _ _ _
+    ∙ (goes_on _ _ _ k.runs ∙ no-function (setting_in c.args.self.now)
+    (λ calls s σ. statement_run (setting_in c.args.self.now) s calls σ) _ _
+    (rw s.table at c.in_default.ensures) _ _)))
+    k.fuel k.kept (k.ends ∙ p.ends)
+
+pub call-returns-then-opened-self-clause-ran : goal.call-returns-then-opened-self-clause-ran
+call-returns-then-opened-self-clause-ran t c =
+    let s = c.arguments.ensures.same in
+    let p = call-ready _ _ _ _ _ c.requires.ready c.part_count-count.result c.requires.kind
+    c.part_count-count.ensures in
+    let k = c.in_ok-next.ensures.ran in
+    let l = rw s.table at c.in-Some.ensures in
+    rw c.end_at.ensures record {
+      runs = rw p.is ((by-rules (setting_in c.args.self.now)).of_call _ _ _ _ _
+          ∙ (goes_on _ _ _ k.runs ∙ too_deep (setting_in c.args.self.now)
+          (λ calls s σ. statement_run (setting_in c.args.self.now) s calls σ) _ _ _
+          l.is _ _ (eqb-true _ _ (rw s.depth at c.if-opened-self.true))));
+      fuel = k.fuel;
+      kept = (
+        omega (arith, k.kept),
+        omega (arith, k.kept, c.requires.ready.room.names, s.names_length),
+        omega (arith, k.kept, c.requires.ready.room.words, s.words_length),
+      );
+      ends = tt;
+    }
+
+pub call-returns-then-self-eq0-clause-ran : goal.call-returns-then-self-eq0-clause-ran
+call-returns-then-self-eq0-clause-ran t c =
+    let s = c.arguments.ensures.same in
+    let p = call-ready _ _ _ _ _ c.requires.ready c.part_count-count.result c.requires.kind
+    c.part_count-count.ensures in
+    let k = c.in_ok-next.ensures.ran in
+    let l = rw s.table at c.in-Some.ensures in
+    rw c.end_at-then-self-eq0.ensures record {
+      runs = rw p.is ((by-rules (setting_in c.args.self.now)).of_call _ _ _ _ _
+          ∙ (goes_on _ _ _ k.runs
+          ∙ without-fuel (setting_in c.args.self.now)
+          (λ calls s σ. statement_run (setting_in c.args.self.now) s calls σ) _ _ _
+          l.is _ _ (eqb-ne _ _ (rw s.depth at c.if-opened-self.false)) c.if-self-eq0.true));
+      fuel = k.fuel;
+      kept = (
+        omega (arith, k.kept),
+        omega (arith, k.kept, c.requires.ready.room.names, s.names_length),
+        omega (arith, k.kept, c.requires.ready.room.words, s.words_length),
+      );
+      ends = tt;
+    }
+
+pub call-slice_bounds-given-end : goal.call-slice_bounds-given-end
+call-slice_bounds-given-end t c =
+    let p = call-ready _ _ _ _ _ c.requires.ready c.part_count-count.result c.requires.kind
+    c.part_count-count.ensures in
+    omega (arith, p.few)
+
+pub call-slice_bounds-bind-end : goal.call-slice_bounds-bind-end
+call-slice_bounds-bind-end t c =
+    let p = call-ready _ _ _ _ _ c.requires.ready c.part_count-count.result c.requires.kind
+    c.part_count-count.ensures in
+    sym (length-take-le c.part_count-count.result c.arguments.new.given (omega (arith, p.few)))
+
+pub call-bind-requires : goal.call-bind-requires
+call-bind-requires t c =
+    let s = c.arguments.ensures.same in
+    let p = call-ready _ _ _ _ _ c.requires.ready c.part_count-count.result c.requires.kind
+    c.part_count-count.ensures in
+    let k = c.in_ok-next.ensures.ran in
+    let l = rw s.table at c.in-Some.ensures in
+    let o = rw s.depth at c.if-opened-self.false in
+    let n = enters _ c.requires.ready.room p.takes l o (lent_in c.arguments.new.self) (same-room s k.kept) in
+    let g : length (take c.part_count-count.result c.arguments.new.given) ≡ c.part_count-count.result =
+    length-take-le c.part_count-count.result c.arguments.new.given (omega (arith, p.few)) in
+    rw (s.table, g) record { inside = omega (arith, n.within); plain = n.plain; names = n.names; words = n.words }
+
+pub call-overflow_add-f-3 : goal.call-overflow_add-f-3
+call-overflow_add-f-3 t c =
+    let s = c.arguments.ensures.same in
+    let p = call-ready _ _ _ _ _ c.requires.ready c.part_count-count.result c.requires.kind
+    c.part_count-count.ensures in
+    let k = c.in_ok-next.ensures.ran in
+    let l = rw s.table at c.in-Some.ensures in
+    let o = rw s.depth at c.if-opened-self.false in
+    let n = enters _ c.requires.ready.room p.takes l o (lent_in c.arguments.new.self) (same-room s k.kept) in
+    let i : c.in-Some.f + 1 + c.part_count-count.result < length c.args.self.now.table.now = n.within in
+    let i' = rw (← s.table) at i in
+    search rules
+
+pub call-statement-requires : goal.call-statement-requires
+call-statement-requires t c =
+    let s = c.arguments.ensures.same in
+    let p = call-ready _ _ _ _ _ c.requires.ready c.part_count-count.result c.requires.kind
+    c.part_count-count.ensures in
+    let k = c.in_ok-next.ensures.ran in
+    let l = rw s.table at c.in-Some.ensures in
+    let o = rw s.depth at c.if-opened-self.false in
+    let n = enters _ c.requires.ready.room p.takes l o (lent_in c.arguments.new.self) (same-room s k.kept) in
+    let u = c.bind.ensures.same in
+    let g : length (take c.part_count-count.result c.arguments.new.given) ≡ c.part_count-count.result =
+    length-take-le c.part_count-count.result c.arguments.new.given (omega (arith, p.few)) in
+    let e = rw g at c.bind.ensures.progress.count in
+    let h = not-all c.requires.ready.room.below o in
+    let d = deeper c.args.self.now.depth c.args.opened (length c.args.self.now.table.now + 1) h in
+    let i = n.ready (lent_in c.bind.new.self) e u.names_length u.words_length in
+    rw (u.table, u.depth, s.table, s.depth) (omega (arith, n.within, d), i)
+
+pub call-returns-clause-ran : goal.call-returns-clause-ran
+call-returns-clause-ran t c =
+    let s = c.arguments.ensures.same in
+    let p = call-ready _ _ _ _ _ c.requires.ready c.part_count-count.result c.requires.kind
+    c.part_count-count.ensures in
+    let k = c.in_ok-next.ensures.ran in
+    let l = rw s.table at c.in-Some.ensures in
+    let o = rw s.depth at c.if-opened-self.false in
+    let n = enters _ c.requires.ready.room p.takes l o (lent_in c.arguments.new.self) (same-room s k.kept) in
+    let u = c.bind.ensures.same in
+    let g : length (take c.part_count-count.result c.arguments.new.given) ≡ c.part_count-count.result =
+    length-take-le c.part_count-count.result c.arguments.new.given (omega (arith, p.few)) in
+    let e = rw g at c.bind.ensures.progress.count in
+    let z : c.arguments.new.self.fuel ≡ suc (c.arguments.new.self.fuel - 1) = omega arith in
+    let lent₁ : Lent = record (lent_in c.arguments.new.self) { fuel = c.arguments.new.self.fuel - 1 } in
+    let υ : State ℤ = state lent₁ in
+    let v = c.statement.ensures.same in
+    let y = call-runs (setting_in c.args.self.now) c.args.at _ _ c.args.opened _ (state (lent_in c.arguments.new.self))
+    c.arguments.new.given (0 + c.part_count-count.result) c.part_count-count.result
+    (c.arguments.new.self.fuel - 1) (function_of (tree_at c.args.self.now.table.now c.in-Some.f)) _ _
+    (state (lent_in c.bind.new.self)) k.runs l.is (eqb-ne _ _ o) z n.body n.parameters (omega arith)
+    (rw (s.table, g) at c.bind.ensures.bound) in
+    elim c.match-statement.branch [
+      | call-in-Ok w ↦
+          let j = rw (u.table, u.depth, s.table, s.depth) at w.in-Ok.ensures.ran in
+          let d = dropped lent₁ (lent_in c.statement.new.self) c.arguments.new.self.bound refl
+          (omega (arith, j.kept, e)) (omega (arith, j.kept, e, n.names, v.names_length, u.names_length))
+          (omega (arith, j.kept, e, n.words, v.words_length, u.words_length))
+          (omega (arith, n.names)) (omega (arith, n.words)) in
+          gives _ _ _ _ (pos 0) _ _ w.word-is
+          (rw p.is (y ∙ (ap (leave_call (pos 0) υ) j.runs ∙ ap (value (pos 0)) d)))
+          (omega (arith, j.fuel, k.fuel, c.bind.ensures.progress.fuel)) k.kept (k.ends ∙ p.ends)
+      | call-in-Err-Returned w ↦
+          let j = rw (u.table, u.depth, s.table, s.depth) at (recast (Returned w.in-Err-Returned.word) w.in-Err-Returned.field-0-is w.in-Err-Returned.ensures.ran) in
+          let d = dropped lent₁ (lent_in c.statement.new.self) c.arguments.new.self.bound refl
+          (omega (arith, j.kept.0, e)) j.kept.1 j.kept.2 (omega (arith, n.names)) (omega (arith, n.words)) in
+          let f : SFits w32 w.in-Err-Returned.word = search rules in
+          gives _ _ _ _ w.in-Err-Returned.word _ _ (w.word-is ∙ to_z-of_z w32 w.in-Err-Returned.word f)
+          (rw p.is (y ∙ (ap (leave_call (pos 0) υ) j.runs ∙ ap (value w.in-Err-Returned.word) d)))
+          (omega (arith, j.fuel, k.fuel, c.bind.ensures.progress.fuel)) k.kept (k.ends ∙ p.ends)
+    ]
+
+pub call-returns-in-Err-Ended-clause-ran : goal.call-returns-in-Err-Ended-clause-ran
+call-returns-in-Err-Ended-clause-ran t c =
+    let s = c.arguments.ensures.same in
+    let p = call-ready _ _ _ _ _ c.requires.ready c.part_count-count.result c.requires.kind
+    c.part_count-count.ensures in
+    let k = c.in_ok-next.ensures.ran in
+    let l = rw s.table at c.in-Some.ensures in
+    let o = rw s.depth at c.if-opened-self.false in
+    let n = enters _ c.requires.ready.room p.takes l o (lent_in c.arguments.new.self) (same-room s k.kept) in
+    let u = c.bind.ensures.same in
+    let g : length (take c.part_count-count.result c.arguments.new.given) ≡ c.part_count-count.result =
+    length-take-le c.part_count-count.result c.arguments.new.given (omega (arith, p.few)) in
+    let e = rw g at c.bind.ensures.progress.count in
+    let z : c.arguments.new.self.fuel ≡ suc (c.arguments.new.self.fuel - 1) = omega arith in
+    let lent₁ : Lent = record (lent_in c.arguments.new.self) { fuel = c.arguments.new.self.fuel - 1 } in
+    let υ : State ℤ = state lent₁ in
+    let v = c.statement.ensures.same in
+    let y = call-runs (setting_in c.args.self.now) c.args.at _ _ c.args.opened _ (state (lent_in c.arguments.new.self))
+    c.arguments.new.given (0 + c.part_count-count.result) c.part_count-count.result
+    (c.arguments.new.self.fuel - 1) (function_of (tree_at c.args.self.now.table.now c.in-Some.f)) _ _
+    (state (lent_in c.bind.new.self)) k.runs l.is (eqb-ne _ _ o) z n.body n.parameters (omega arith)
+    (rw (s.table, g) at c.bind.ensures.bound) in
+    let j = rw (u.table, u.depth, s.table, s.depth) at (recast (Ended c.in-Err-Ended.end) c.in-Err-Ended.field-0-is c.in-Err-Ended.ensures.ran) in
+    record {
+      runs = rw p.is (y ∙ ap (leave_call (pos 0) υ) j.runs);
+      fuel = omega (arith, j.fuel, k.fuel, c.bind.ensures.progress.fuel);
+      kept = (omega (arith, j.kept.0, k.kept, e), j.kept.1, j.kept.2);
+      ends = tt;
+    }
