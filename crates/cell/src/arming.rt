@@ -61,8 +61,8 @@ impl Cell {
     }
 }
 
-// Writes the literals of the numbers into the first words. By an index, since a proof knows nothing of what was written
-// through `iter_mut` and `zip`.
+// Writes the literals of the numbers into the first words. By an index: `iter_mut` under `zip` was tried, and tells a
+// proof nothing of the words written.
 fn write_literals<W: NumberKind + Copy>(numbers: &[i32], words: &mut [W])
     requires { length numbers.now ≤ length words.old }
     ensures { words.new ≡ with_literals W.NumberKind.kind numbers.now words.old }

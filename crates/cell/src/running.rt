@@ -50,6 +50,7 @@ impl Cell {
         ensures holds { R.Rack.holds rack.new ≡ R.Rack.holds rack.old }
         ensures loan { R.Rack.loan rack.new ≡ R.Rack.loan rack.old }
     {
+        // no conversion is plainer: a depth is at most 63
         let wanted = self.words_wanted(self.machine.depth as u32);
         if words.len() < wanted {
             return Err(Refusal::TooFewWords(wanted));

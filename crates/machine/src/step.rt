@@ -1,5 +1,6 @@
 // Steps and runs of the machine. Words and rack stay two parameters: they are lent by two owners, and a struct of both
-// would be built anew at each call.
+// would be built anew at each call. That what bays hold and what is on loan stays relates two moments of a rack, so it is
+// a clause and no invariant.
 ghost use Rattle.std.specs.Prelude.{◌≡◌, ◌+◌, ◌^◌, ◌<◌, List};
 ghost use Rattle.machine.specs.Machine.{execute, step, image_of, state_of};
 ghost use Rattle.machine.specs.Steps.{Makes, MakesMoved, run_leaving, run_at_most, InPieces};
