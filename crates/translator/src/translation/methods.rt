@@ -41,11 +41,7 @@ impl Translation {
     {
         check_shape(table)?;
         let mut names: [u16; 128] = [0; 128];
-        let mut signatures = [Signature {
-            name: 0,
-            count: 0,
-            place: 0,
-        }; 128];
+        let mut signatures = [Signature::default(); 128];
         let mut globals = Stack::new(&mut names, 0);
         let mut functions = Stack::new(&mut signatures, 0);
         let summary = check_names(table, &mut globals, &mut functions)?;
