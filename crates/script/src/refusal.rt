@@ -31,7 +31,7 @@ pub enum Refusal {
 }
 
 impl Refusal {
-    // The number by which the refusal is known.
+    // The number by which controllers know the refusal.
     pub fn number(&self) -> u8
         ensures { result ≡ number self.now }
     {

@@ -4,7 +4,8 @@ ghost use Rattle.script.specs.Rows.{rows, row_of, unknown, amount, part_count, s
 
 use crate::record::Record;
 
-// What a record is. `Declaration` is only ever wanted: a variable declaration or a function suits it.
+// What a record is. `Declaration` is only ever wanted: a variable declaration or a function suits it. `Unknown` is a sort
+// and no Option, since each of the 32 kinds has a row.
 #[derive(Clone, Copy, PartialEq, Eq, Debug)]
 pub enum Sort {
     Unknown,
@@ -37,7 +38,7 @@ pub enum Operator {
     Greater,
 }
 
-// Which node of the language a record is.
+// Which node of the language a record is; an unknown kind is a node too, for the same reason.
 #[derive(Clone, Copy, PartialEq, Eq, Debug)]
 pub enum NodeKind {
     Unknown,

@@ -1,5 +1,6 @@
 // A stack of any words that can be copied, over a slice that its owner lends.
 // Every method is total: what lies outside the store is not read or written. A popped word stays until overwritten.
+// A read gives the caller's own `none` there and no Option, so that a caller within the store has no case that cannot be.
 #![tactic(auto)]
 
 ghost use Rattle.std.specs.Prelude.{◌≡◌, ◌+◌, ◌-◌, length, slice_index_or, slice_set};
