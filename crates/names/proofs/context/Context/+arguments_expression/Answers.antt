@@ -19,7 +19,7 @@ several t c m e =
 pub arguments-expression-requires : goal.arguments-expression-requires
 arguments-expression-requires t c =
     let p = several t (goal.at.arguments-expression-requires t c).In-loop _ refl in
-    (omega (arith, c.loop.invariant.later), record { within = p.within; sound = p.first })
+    (omega arith, record { within = p.within; sound = p.first })
 
 pub arguments-returns-in_err-next : goal.arguments-returns-in_err-next
 arguments-returns-in_err-next t c =
@@ -35,7 +35,7 @@ arguments-loop-preserved t c =
     rw (← e) record {
       parts = record { within = omega (arith, p.ends); sound = p.others };
       answer = rw (← c.loop.invariant.answer, p.parts) (on _ _ _ _ _ w.0 (omega (arith, w.1)) refl);
-      later = omega (arith, p.later, c.loop.invariant.later);
+      later = omega (arith, p.later);
     }
 
 pub expression-returns-in_err-check_record : goal.expression-returns-in_err-check_record

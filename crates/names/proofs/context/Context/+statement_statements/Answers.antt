@@ -125,9 +125,8 @@ statement-returns-in_ok-next-in_default-clause-answer t c =
 
 pub statements-statement-requires : goal.statements-statement-requires
 statements-statement-requires t c =
-    let i = c.loop.invariant in
     let p = several t (goal.at.statements-statement-requires t c).In-loop _ refl in
-    (omega (arith, i.later), (record { within = p.within; sound = p.first }, omega (arith, i.later, i.height, i.store)))
+    (omega arith, (record { within = p.within; sound = p.first }, omega arith))
 
 pub statements-returns-in_err-next-clause-answer : goal.statements-returns-in_err-next-clause-answer
 statements-returns-in_err-next-clause-answer t c =
@@ -146,7 +145,7 @@ statements-loop-preserved t c =
     rw (← e) record {
       parts = record { within = omega (arith, p.ends); sound = p.others };
       answer = rw (← i.answer, p.parts) (on _ _ _ _ _ w.0 (omega (arith, w.1)) refl);
-      later = omega (arith, p.later, i.later);
+      later = omega (arith, p.later);
       names = d.scope.names ∙ i.names;
       height = d.scope.height ∙ i.height;
       store = d.scope.store ∙ i.store;
