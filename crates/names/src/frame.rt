@@ -38,22 +38,21 @@ fn expression(table: &[Record], at: usize) -> Measured
     ensures { Measures table.now at 0 (need_expression (expression_at table.now at))
         (size (tree_at table.now at)) result }
 {
-    arguments(table, part_count(table[at]), at + 1, 0).at_least(1)
+    arguments(table, part_count(table[at]), at + 1).at_least(1)
 }
 
-// `count` expressions from `at` on, with `below` words under the first and one more under each that follows.
+// `count` expressions from `at` on. Each runs on top of the words of those before it.
 #[cycle(arguments_expression)]
-fn arguments(table: &[Record], count: usize, at: usize, below: usize) -> Measured
-    requires parts { Parts table.now at count Expression }
-    requires low { below ≤ at }
-    ensures { Measures table.now at below (need_arguments (arguments_at table.now at count) below)
+fn arguments(table: &[Record], count: usize, at: usize) -> Measured
+    requires { Parts table.now at count Expression }
+    ensures { Measures table.now at 0 (need_arguments (arguments_at table.now at count) 0)
         (sizes (pieces table.now at count)) result }
 {
     let mut found = Measured { words: 0, next: at };
-    for i in 0..count {
+    for below in 0..count {
         let part = expression(table, found.next);
         found = Measured {
-            words: found.words.max(below + i + part.words),
+            words: found.words.max(below + part.words),
             next: part.next,
         };
     }

@@ -1,4 +1,4 @@
-use Rattle.std.proofs.Common.{◌≡◌, ℕ, suc, ◌+◌, ◌-◌, ◌<◌, refl, ap, arith}
+use Rattle.std.proofs.Common.{◌≡◌, ℕ, ◌+◌, ◌-◌, ◌<◌, refl, ap, add-one, arith}
 use Rattle.script.specs.declared.rows.Sort.TheVariants.{Expression}
 use Rattle.syntax.specs.Trees.{tree_at, size, no_record}
 use Rattle.syntax.specs.Typed.{arguments_of, arguments_at}
@@ -6,30 +6,29 @@ use Rattle.names.specs.Need.{need_arguments}
 use Rattle.syntax.proofs.Expressions.{Firsts, expressed, firsts}
 use Rattle.names.proofs.Rules.{expression-need}
 use Rattle.names.proofs.frame.+arguments_expression.Goals as goal
-use Rattle.names.proofs.frame.+arguments_expression.Goals.{arguments-In-loop-i}
+use Rattle.names.proofs.frame.+arguments_expression.Goals.{arguments-In-loop-below}
 
 -- The first of the arguments that are left, and those from m on.
-several : (t : ℕ) (c : arguments-In-loop-i t) (m : ℕ) →
-    m ≡ c.loop-i.found.next + size (tree_at c.args.table.now c.loop-i.found.next) →
-    Firsts c.args.table.now c.loop-i.found.next (c.args.count - c.loop-i.i) m Expression
+several : (t : ℕ) (c : arguments-In-loop-below t) (m : ℕ) →
+    m ≡ c.loop-below.found.next + size (tree_at c.args.table.now c.loop-below.found.next) →
+    Firsts c.args.table.now c.loop-below.found.next (c.args.count - c.loop-below.below) m Expression
 several t c m e =
-    let k : 0 < c.args.count - c.loop-i.i = omega arith in
-    firsts c.args.table.now c.loop-i.found.next _ m _ k c.loop-i.invariant.parts.sound e
+    let k : 0 < c.args.count - c.loop-below.below = omega arith in
+    firsts c.args.table.now c.loop-below.found.next _ m _ k c.loop-below.invariant.parts.sound e
 
 pub arguments-expression-part-requires : goal.arguments-expression-part-requires
 arguments-expression-part-requires t c =
-    let p = several t (goal.at.arguments-expression-part-requires t c).In-loop-i _ refl in
+    let p = several t (goal.at.arguments-expression-part-requires t c).In-loop-below _ refl in
     (omega arith, record { within = p.within; sound = p.first })
 
-pub arguments-loop-i-preserved : goal.arguments-loop-i-preserved
-arguments-loop-i-preserved t c =
-    let p = several t (goal.at.arguments-loop-i-preserved t c).In-loop-i c.expression-part.result.next
+pub arguments-loop-below-preserved : goal.arguments-loop-below-preserved
+arguments-loop-below-preserved t c =
+    let p = several t (goal.at.arguments-loop-below-preserved t c).In-loop-below c.expression-part.result.next
     c.expression-part.ensures.next in
-    let e : c.args.count - c.loop-i.i - 1 ≡ c.args.count - (c.loop-i.i + 1) = omega arith in
-    let n = ap (λ f. need_arguments (arguments_of f) (c.args.below + c.loop-i.i)) p.parts in
-    let u : suc (c.args.below + c.loop-i.i) ≡ c.args.below + (c.loop-i.i + 1) = omega arith in
+    let e : c.args.count - c.loop-below.below - 1 ≡ c.args.count - (c.loop-below.below + 1) = omega arith in
+    let n = ap (λ f. need_arguments (arguments_of f) c.loop-below.below) p.parts in
     let s = ap (need_arguments (arguments_at c.args.table.now c.expression-part.result.next
-    (c.args.count - c.loop-i.i - 1))) u in
+    (c.args.count - c.loop-below.below - 1))) (add-one c.loop-below.below) in
     rw (← e) record {
       parts = record { within = omega (arith, p.ends); sound = p.others };
       words = omega (arith, n, s);
@@ -42,7 +41,7 @@ pub expression-arguments-requires : goal.expression-arguments-requires
 expression-arguments-requires t c =
     let p = expressed c.args.table.now c.args.at _ no_record c.requires.within c.requires.sound
     c.part_count.ensures in
-    (omega arith, (record { within = p.within; sound = p.sound }, omega arith))
+    (omega arith, record { within = p.within; sound = p.sound })
 
 pub expression-returns : goal.expression-returns
 expression-returns t c =

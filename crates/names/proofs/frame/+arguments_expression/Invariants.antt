@@ -13,15 +13,15 @@ abbrev pub decreases-expression : goal.decreases-expression
 decreases-expression l = 2 * (length l.table.now - l.at)
 
 -- What was found and what is left are all.
-abbrev pub invariant-arguments-loop-i : goal.invariant-arguments-loop-i
-invariant-arguments-loop-i l =
-    let left = l.count - l.i in
+abbrev pub invariant-arguments-loop-below : goal.invariant-arguments-loop-below
+invariant-arguments-loop-below l =
+    let left = l.count - l.below in
     record {
       parts : Parts l.table l.found.next left Expression;
       words :
-          max l.found.words (need_arguments (arguments_at l.table l.found.next left) (l.below + l.i))
-          ≡ need_arguments (arguments_at l.table l.at l.count) l.below;
+          max l.found.words (need_arguments (arguments_at l.table l.found.next left) l.below)
+          ≡ need_arguments (arguments_at l.table l.at l.count) 0;
       next : l.found.next + sizes (pieces l.table l.found.next left) ≡ l.at + sizes (pieces l.table l.at l.count);
-      bound : l.at + l.found.words ≤ l.found.next + l.below;
-      later : l.at + l.i ≤ l.found.next;
+      bound : l.at + l.found.words ≤ l.found.next;
+      later : l.at + l.below ≤ l.found.next;
     }
