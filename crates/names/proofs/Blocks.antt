@@ -1,20 +1,18 @@
--- A block, a statement that is none, and several statements: what their parts are answered is what they are.
-use Rattle.std.proofs.Common.{◌≡◌, ℕ, ◌+◌, ◌-◌, List, ◌++◌, map, reverse, Ok, Err, Result, arith}
+-- A block, and a statement that is none: what their parts are answered is what they are.
+use Rattle.std.proofs.Common.{◌≡◌, ℕ, ◌+◌, List, ◌++◌, map, reverse, Ok, Err, Result, arith}
 use Rattle.script.specs.declared.record.Record.{Record}
 use Rattle.script.specs.declared.refusal.Refusal.{Refusal}
-use Rattle.script.specs.declared.rows.Sort.TheVariants.{Statement as StatementSort}
 use Rattle.syntax.specs.Syntax.{VariableDeclaration, Expression, Statements, name_of, bind_names}
 use Rattle.syntax.specs.Trees.{pieces, sizes}
-use Rattle.syntax.specs.Typed.{expression_at, statement_at, statements_at, variables_at}
-use Rattle.syntax.proofs.Expressions.{Firsts}
+use Rattle.syntax.specs.Typed.{expression_at, statements_at, variables_at}
 use Rattle.syntax.proofs.Statements.{Blocked, Stated}
 use Rattle.names.specs.declared.context.Context.{Context}
 use Rattle.names.specs.declared.signature.Signature.{Signature}
-use Rattle.names.specs.Names.{expression_rules, local_rules, statement_rules, block_rules}
+use Rattle.names.specs.Names.{expression_rules, local_rules, block_rules}
 use Rattle.names.specs.Passes.{checked_expression, checked_locals, checked_statement, checked_statements}
 use Rattle.names.proofs.Outcomes.{refused, went, on}
 use Rattle.names.proofs.Rules.{statement-rules}
-use Rattle.names.proofs.Scopes.{inner-scope, same-scope}
+use Rattle.names.proofs.Scopes.{inner-scope}
 
 module _ (c : Context) (scope : List ℕ) (at n m : ℕ) where
   abbrev globals : List ℕ
@@ -59,17 +57,3 @@ module _ (c : Context) (scope : List ℕ) (at n m : ℕ) where
         rw (statement-rules globals functions (reverse scope) c.table.now at n m node p)
         (on (expression_rules globals functions e (reverse scope)) (block_rules globals functions ss (reverse scope)) end _
         r w.0 (omega (arith, w.1, p.whole)) q)
-
-module _ (c : Context) (scope : List ℕ) (at n m : ℕ) (p : Firsts c.table.now at n m StatementSort) where
-  pub first-refused : (y : Refusal) → Err y ≡ checked_statement c at scope → Err y ≡ checked_statements c n at scope
-  first-refused y h = rw p.parts (refused _ _ _ _ y h)
-
-  pub first-passed : (after : List ℕ) (r : Result ℕ Refusal) → Ok m ≡ checked_statement c at scope → after ≡ scope →
-      r ≡ checked_statements c (n - 1) m after → r ≡ checked_statements c n at scope
-  first-passed after r h e q =
-      let w = went _ _ m h in
-      rw p.parts (on (statement_rules (reverse c.globals.now) c.functions.now (statement_at c.table.now at) (reverse scope))
-      (block_rules (reverse c.globals.now) c.functions.now (statements_at c.table.now m (n - 1)) (reverse scope))
-      (m + sizes (pieces c.table.now m (n - 1))) _ r w.0 (omega (arith, w.1, p.whole))
-      (same-scope (reverse c.globals.now) c.functions.now (statements_at c.table.now m (n - 1))
-      (m + sizes (pieces c.table.now m (n - 1))) r scope after e q))

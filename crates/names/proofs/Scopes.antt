@@ -41,13 +41,8 @@ pub dropped : (scope ys inner seen out : List ℕ) (n : ℕ) → length scope �
     ≡ take n seen → out ≡ scope
 dropped scope ys inner seen out n l p q h = h ∙ rw (q, p) (take_at scope ys n l)
 
--- Statements under equal scopes, and under a block's locals.
+-- Statements under a block's locals.
 module _ (globals : List ℕ) (functions : List Signature) (ss : Statements) (n : ℕ) (r : Result ℕ Refusal) where
-  pub same-scope : (scope after : List ℕ) → after ≡ scope →
-      r ≡ outcome (block_rules globals functions ss (reverse after)) n → r
-      ≡ outcome (block_rules globals functions ss (reverse scope)) n
-  same-scope scope after e h = h ∙ ap (λ (l : List ℕ). outcome (block_rules globals functions ss (reverse l)) n) e
-
   pub inner-scope : (ds : List VariableDeclaration) (scope inner : List ℕ) → inner ≡ scope ++ map name_of ds →
       r ≡ outcome (block_rules globals functions ss (reverse inner)) n → r
       ≡ outcome (block_rules globals functions ss (bind_names ds (reverse scope))) n

@@ -41,10 +41,10 @@ impl Context<'_> {
         requires { Parts self.now.table.now at count Expression }
         ensures { result ≡ checked_arguments self.now count at scope.now }
     {
-        if count == 0 {
-            return Ok(at);
+        let mut next = at;
+        for _ in 0..count {
+            next = self.expression(next, scope)?;
         }
-        let next = self.expression(at, scope)?;
-        self.arguments(count - 1, next, scope)
+        Ok(next)
     }
 }

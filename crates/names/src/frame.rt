@@ -38,23 +38,25 @@ fn expression(table: &[Record], at: usize) -> Measured
     ensures { Measures table.now at 0 (need_expression (expression_at table.now at))
         (size (tree_at table.now at)) result }
 {
-    arguments(table, part_count(table[at]), at + 1, 0).at_least(1)
+    arguments(table, part_count(table[at]), at + 1).at_least(1)
 }
 
-// `count` expressions from `at` on, with `below` words under the first.
+// `count` expressions from `at` on. Each runs on top of the words of those before it.
 #[cycle(arguments_expression)]
-fn arguments(table: &[Record], count: usize, at: usize, below: usize) -> Measured
-    requires parts { Parts table.now at count Expression }
-    requires low { below ≤ at }
-    ensures { Measures table.now at below (need_arguments (arguments_at table.now at count) below)
+fn arguments(table: &[Record], count: usize, at: usize) -> Measured
+    requires { Parts table.now at count Expression }
+    ensures { Measures table.now at 0 (need_arguments (arguments_at table.now at count) 0)
         (sizes (pieces table.now at count)) result }
 {
-    if count == 0 {
-        return Measured { words: 0, next: at };
+    let mut found = Measured { words: 0, next: at };
+    for below in 0..count {
+        let part = expression(table, found.next);
+        found = Measured {
+            words: found.words.max(below + part.words),
+            next: part.next,
+        };
     }
-    let first = expression(table, at);
-    let rest = arguments(table, count - 1, first.next, below + 1);
-    rest.at_least(below + first.words)
+    found
 }
 
 // The statement at `at`.
@@ -88,10 +90,13 @@ fn statements(table: &[Record], count: usize, at: usize, below: usize) -> Measur
     ensures { Measures table.now at below (need_statements (statements_at table.now at count) below)
         (sizes (pieces table.now at count)) result }
 {
-    if count == 0 {
-        return Measured { words: 0, next: at };
+    let mut found = Measured { words: 0, next: at };
+    for _ in 0..count {
+        let part = statement(table, found.next);
+        found = Measured {
+            words: found.words.max(below + part.words),
+            next: part.next,
+        };
     }
-    let first = statement(table, at);
-    let rest = statements(table, count - 1, first.next, below);
-    rest.at_least(below + first.words)
+    found
 }

@@ -88,10 +88,10 @@ impl Context<'_> {
         ensures answer { result ≡ checked_statements self.now count at (contents scope.old) }
         ensures scope { Kept result scope.old scope.new }
     {
-        if count == 0 {
-            return Ok(at);
+        let mut next = at;
+        for _ in 0..count {
+            next = self.statement(next, scope)?;
         }
-        let next = self.statement(at, scope)?;
-        self.statements(count - 1, next, scope)
+        Ok(next)
     }
 }

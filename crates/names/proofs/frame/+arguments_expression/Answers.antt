@@ -1,45 +1,47 @@
-use Rattle.std.proofs.Common.{◌-◌, ◌<◌, refl, ap, add-one, arith}
-use Rattle.syntax.specs.Trees.{no_record}
+use Rattle.std.proofs.Common.{◌≡◌, ℕ, ◌+◌, ◌-◌, ◌<◌, refl, ap, add-one, arith}
+use Rattle.script.specs.declared.rows.Sort.TheVariants.{Expression}
+use Rattle.syntax.specs.Trees.{tree_at, size, no_record}
 use Rattle.syntax.specs.Typed.{arguments_of, arguments_at}
 use Rattle.names.specs.Need.{need_arguments}
-use Rattle.syntax.proofs.Expressions.{expressed, firsts}
+use Rattle.syntax.proofs.Expressions.{Firsts, expressed, firsts}
 use Rattle.names.proofs.Rules.{expression-need}
 use Rattle.names.proofs.frame.+arguments_expression.Goals as goal
+use Rattle.names.proofs.frame.+arguments_expression.Goals.{arguments-In-loop-below}
 
-pub arguments-expression-first-requires : goal.arguments-expression-first-requires
-arguments-expression-first-requires t c =
-    let k : 0 < c.args.count = omega arith in
-    let p = firsts c.args.table.now c.args.at c.args.count _ _ k c.requires.parts.sound refl in
+-- The first of the arguments that are left, and those from m on.
+several : (t : ℕ) (c : arguments-In-loop-below t) (m : ℕ) →
+    m ≡ c.loop-below.found.next + size (tree_at c.args.table.now c.loop-below.found.next) →
+    Firsts c.args.table.now c.loop-below.found.next (c.args.count - c.loop-below.below) m Expression
+several t c m e =
+    let k : 0 < c.args.count - c.loop-below.below = omega arith in
+    firsts c.args.table.now c.loop-below.found.next _ m _ k c.loop-below.invariant.parts.sound e
+
+pub arguments-expression-part-requires : goal.arguments-expression-part-requires
+arguments-expression-part-requires t c =
+    let p = several t (goal.at.arguments-expression-part-requires t c).In-loop-below _ refl in
     (omega arith, record { within = p.within; sound = p.first })
 
-pub arguments-arguments-rest-requires : goal.arguments-arguments-rest-requires
-arguments-arguments-rest-requires t c =
-    let k : 0 < c.args.count = omega arith in
-    let p = firsts c.args.table.now c.args.at c.args.count c.expression-first.result.next _ k
-    c.requires.parts.sound c.expression-first.ensures.next in
-    (omega (arith, p.later, p.ends, p.within), (record { within = omega arith; sound = p.others }, omega (arith, p.later)))
-
-pub arguments-returns : goal.arguments-returns
-arguments-returns t c =
-    let k : 0 < c.args.count = omega arith in
-    let p = firsts c.args.table.now c.args.at c.args.count c.expression-first.result.next _ k
-    c.requires.parts.sound c.expression-first.ensures.next in
-    let e = ap (λ f. need_arguments (arguments_of f) c.args.below) p.parts in
-    let s = ap (need_arguments (arguments_at c.args.table.now c.expression-first.result.next
-    (c.args.count - 1))) (add-one c.args.below) in
-    record {
-      words = omega (arith, e, s);
+pub arguments-loop-below-preserved : goal.arguments-loop-below-preserved
+arguments-loop-below-preserved t c =
+    let p = several t (goal.at.arguments-loop-below-preserved t c).In-loop-below c.expression-part.result.next
+    c.expression-part.ensures.next in
+    let e : c.args.count - c.loop-below.below - 1 ≡ c.args.count - (c.loop-below.below + 1) = omega arith in
+    let n = ap (λ f. need_arguments (arguments_of f) c.loop-below.below) p.parts in
+    let s = ap (need_arguments (arguments_at c.args.table.now c.expression-part.result.next
+    (c.args.count - c.loop-below.below - 1))) (add-one c.loop-below.below) in
+    rw (← e) record {
+      parts = record { within = omega (arith, p.ends); sound = p.others };
+      words = omega (arith, n, s);
       next = omega (arith, p.whole);
-      bound = omega (arith, p.later);
-      ends =
-          omega arith;
+      bound = omega arith;
+      later = omega (arith, p.later);
     }
 
 pub expression-arguments-requires : goal.expression-arguments-requires
 expression-arguments-requires t c =
     let p = expressed c.args.table.now c.args.at _ no_record c.requires.within c.requires.sound
     c.part_count.ensures in
-    (omega arith, (record { within = p.within; sound = p.sound }, omega arith))
+    (omega arith, record { within = p.within; sound = p.sound })
 
 pub expression-returns : goal.expression-returns
 expression-returns t c =

@@ -1,19 +1,19 @@
-use Rattle.std.proofs.Common.{◌≡◌, ℕ, ◌+◌, ◌<◌, ◌≤◌, length, get_or, sym, refl, ap, ◌∙◌, arith}
+use Rattle.std.proofs.Common.{◌≡◌, ℕ, ◌+◌, ◌-◌, ◌<◌, ◌≤◌, length, get_or, sym, refl, ap, ◌∙◌, arith}
 use Rattle.std.proofs.lemmas.Result.{err_from_is_err_and}
 use Rattle.stack.specs.Store.{contents}
 use Rattle.stack.proofs.Contents.{length-contents, contents-cut}
 use Rattle.script.specs.declared.rows.Sort.TheVariants.{Statement}
-use Rattle.syntax.specs.Trees.{no_record}
+use Rattle.syntax.specs.Trees.{tree_at, size, no_record}
 use Rattle.syntax.proofs.Expressions.{Firsts, firsts}
 use Rattle.syntax.proofs.Statements.{Blocked, Stated, stated, blocked}
 use Rattle.names.specs.Passes.{checked_expression}
-use Rattle.names.proofs.Blocks.{locals-refused, block-answered, test-refused, plain-answered, first-passed}
-use Rattle.names.proofs.Outcomes.{went}
+use Rattle.names.proofs.Blocks.{locals-refused, block-answered, test-refused, plain-answered}
+use Rattle.names.proofs.Outcomes.{refused, went, on}
 use Rattle.names.proofs.Scopes.{dropped}
 use Rattle.names.proofs.context.Context.+statement_statements.Goals as goal
-use Rattle.names.proofs.context.Context.+statement_statements.Goals.{statement-In_ok-first-in-Block, statement-In_ok-next-in_default, statements-In_ok-next}
+use Rattle.names.proofs.context.Context.+statement_statements.Goals.{statement-In_ok-first-in-Block, statement-In_ok-next-in_default, statements-In-loop}
 
--- A block past its locals, another statement past its expression, several statements past the first.
+-- A block past its locals, another statement past its expression, the first of the statements that are left.
 block : (t : ℕ) (c : statement-In_ok-first-in-Block t) →
     Blocked c.args.self.now.table.now c.args.at (get_or c.args.self.now.table.now c.args.at no_record).a
     c.statement_count-count.result c.in_ok-first-in-Block.first
@@ -30,12 +30,12 @@ plain t c =
     stated c.args.self.now.table.now c.args.at _ c.in_ok-next-in_default.next no_record c.requires.part.within
     c.requires.part.sound (λ e. c.in_default.not-Block (c.node_kind.ensures ∙ e)) c.statement_count-count.ensures w.1
 
-several : (t : ℕ) (c : statements-In_ok-next t) →
-    Firsts c.args.self.now.table.now c.args.at c.args.count c.in_ok-next.next Statement
-several t c =
-    let k : 0 < c.args.count = omega arith in
-    let w = went _ _ _ c.in_ok-next.ensures.answer in
-    firsts c.args.self.now.table.now c.args.at c.args.count c.in_ok-next.next _ k c.requires.parts.sound w.1
+several : (t : ℕ) (c : statements-In-loop t) (m : ℕ) →
+    m ≡ c.loop.next + size (tree_at c.args.self.now.table.now c.loop.next) →
+    Firsts c.args.self.now.table.now c.loop.next (c.args.count - c.loop.counter) m Statement
+several t c m e =
+    let k : 0 < c.args.count - c.loop.counter = omega arith in
+    firsts c.args.self.now.table.now c.loop.next _ m _ k c.loop.invariant.parts.sound e
 
 pub statement-locals-requires : goal.statement-locals-requires
 statement-locals-requires t c =
@@ -125,22 +125,28 @@ statement-returns-in_ok-next-in_default-clause-answer t c =
 
 pub statements-statement-requires : goal.statements-statement-requires
 statements-statement-requires t c =
-    let k : 0 < c.args.count = omega arith in
-    let p = firsts c.args.self.now.table.now c.args.at c.args.count _ _ k c.requires.parts.sound refl in
-    (omega arith, (record { within = p.within; sound = p.first }, c.requires.room))
+    let p = several t (goal.at.statements-statement-requires t c).In-loop _ refl in
+    (omega arith, (record { within = p.within; sound = p.first }, omega arith))
 
-pub statements-statements-requires : goal.statements-statements-requires
-statements-statements-requires t c =
-    let p = several t (goal.at.statements-statements-requires t c).In_ok-next in (
-      omega (arith, p.later, p.ends, p.within),
-      (
-        record { within = omega (arith, p.ends); sound = p.others },
-        omega (arith, p.later, c.in_ok-next.ensures.scope.height, c.in_ok-next.ensures.scope.store),
-      ),
-    )
+pub statements-returns-in_err-next-clause-answer : goal.statements-returns-in_err-next-clause-answer
+statements-returns-in_err-next-clause-answer t c =
+    let i = c.loop.invariant in
+    let p = several t (goal.at.statements-returns-in_err-next-clause-answer t c).In-loop _ refl in
+    let q = err_from_is_err_and c.from_residual.result c.from_residual.ensures.1 in
+    rw (q.1, q.2, ← i.answer, p.parts) (refused _ _ _ _ _ (rw i.names at c.in_err-next.ensures.answer))
 
-pub statements-returns-clause-answer : goal.statements-returns-clause-answer
-statements-returns-clause-answer t c =
-    let p = several t (goal.at.statements-returns-clause-answer t c).In_ok-next in
-    first-passed c.args.self.now (contents c.args.scope.now) c.args.at _ _ p _ _ c.in_ok-next.ensures.answer
-    c.in_ok-next.ensures.scope.names c.statements.ensures.answer
+pub statements-loop-preserved : goal.statements-loop-preserved
+statements-loop-preserved t c =
+    let i = c.loop.invariant in
+    let d = c.in_ok-next.ensures in
+    let w = went _ _ _ (rw i.names at d.answer) in
+    let p = several t (goal.at.statements-loop-preserved t c).In-loop c.in_ok-next.next w.1 in
+    let e : c.args.count - c.loop.counter - 1 ≡ c.args.count - (c.loop.counter + 1) = omega arith in
+    rw (← e) record {
+      parts = record { within = omega (arith, p.ends); sound = p.others };
+      answer = rw (← i.answer, p.parts) (on _ _ _ _ _ w.0 (omega (arith, w.1)) refl);
+      later = omega (arith, p.later);
+      names = d.scope.names ∙ i.names;
+      height = d.scope.height ∙ i.height;
+      store = d.scope.store ∙ i.store;
+    }
