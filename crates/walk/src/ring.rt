@@ -16,7 +16,7 @@ use script::Ending;
 use script::rows::NodeKind;
 use syntax::parts::{node_kind, part_count, statement_count};
 
-// `opened` calls are open. Argument lists and statements recurse like the rest of the ring, by a rule of the project.
+// `opened` calls are open. Argument lists recurse like the rest of the ring, by a rule of the project.
 impl<'a> Walker<'a> {
     #[cycle(walk)]
     pub fn expression(&mut self, at: usize, opened: usize) -> Result<Valued, Stop>
@@ -201,10 +201,10 @@ impl<'a> Walker<'a> {
         ensures ran { StatementsWalked self.old self.new opened at count result }
         ensures same { Same self.old self.new }
     {
-        if count == 0 {
-            return Ok(at);
+        let mut next = at;
+        for _ in 0..count {
+            next = self.statement(next, opened)?.next;
         }
-        let first = self.statement(at, opened)?;
-        self.statements(count - 1, first.next, opened)
+        Ok(next)
     }
 }

@@ -3,7 +3,7 @@ use Rattle.std.proofs.lemmas.Int.{to_z-of_z}
 use Rattle.std.proofs.lemmas.List.{length-take-le}
 use Rattle.kinds.specs.Counter.{counter}
 use Rattle.script.specs.declared.rows.NodeKind.TheVariants as is
-use Rattle.syntax.specs.Syntax.{no_argument, no_statement}
+use Rattle.syntax.specs.Syntax.{no_argument}
 use Rattle.syntax.specs.Trees.{tree_at, pieces, sizes, no_record}
 use Rattle.syntax.specs.Typed.{arguments_at, statements_at, function_of, node_at}
 use Rattle.syntax.proofs.Shapes.{simple-kind}
@@ -301,52 +301,48 @@ arguments-returns-clause-ran t c =
     c.args.opened us
     (state (lent_in c.expression.new.self))) (sym x))))
 
-pub statements-returns-then-count-eq0-clause-ran : goal.statements-returns-then-count-eq0-clause-ran
-statements-returns-then-count-eq0-clause-ran t c =
-    let z = c.if-count-eq0.true in
-    let e : statements_at c.args.self.now.table.now c.args.at c.args.count ≡ no_statement =
-    ap (λ (n : ℕ). statements_at c.args.self.now.table.now c.args.at n) z in
-    let s : sizes (pieces c.args.self.now.table.now c.args.at c.args.count) ≡ 0 =
-    ap (λ (n : ℕ). sizes (pieces c.args.self.now.table.now c.args.at n)) z in
-    record {
-      runs = rw e ((by-rules (setting_in c.args.self.now)).of_no_statement _ _);
-      fuel = omega arith;
-      kept = refl;
-      ends = omega arith;
-    }
-
 pub statements-statement-requires : goal.statements-statement-requires
 statements-statement-requires t c =
-    let p = first-statement c.requires (omega arith) _ refl in
-    (omega arith, p.first)
+    let i = c.loop.invariant in
+    let p = first-statement i.ready (omega arith) _ refl in
+    rw (i.same.table, i.same.depth) (omega (arith, p.first.part.within, i.later), p.first)
 
-pub statements-returns-in_err-first-clause-ran : goal.statements-returns-in_err-first-clause-ran
-statements-returns-in_err-first-clause-ran t c =
-    let p = first-statement c.requires (omega arith) _ refl in
-    let k = c.in_err-first.ensures.ran in
-    passes c.from_residual.ensures.1 (omega arith)
-    (omega arith) k
-    (rw p.is ((by-rules (setting_in c.args.self.now)).of_then _ _ _ _
+pub statements-returns-in_err-next-clause-ran : goal.statements-returns-in_err-next-clause-ran
+statements-returns-in_err-next-clause-ran t c =
+    let i = c.loop.invariant in
+    let p = first-statement i.ready (omega arith) _ refl in
+    let k = rw (i.same.table, i.same.depth) at c.in_err-next.ensures.ran in
+    passes c.from_residual.ensures.1 (omega (arith, i.bound)) i.fuel k
+    (i.runs ∙ rw p.is ((by-rules (setting_in c.args.self.now)).of_then _ _ _ _
     ∙ stops _ _ _ k.runs))
 
-pub statements-statements-requires : goal.statements-statements-requires
-statements-statements-requires t c =
-    let s = c.statement.ensures.same in
-    let k = c.in_ok-first.ensures.ran in
-    let p = first-statement c.requires (omega arith) c.in_ok-first.first.next k.ends in
-    let r = p.others (lent_in c.statement.new.self)
-    (same-room s k.kept) in
-    rw (s.table, s.depth) (omega (arith, p.first.part.within, p.later), r)
+pub statements-loop-preserved : goal.statements-loop-preserved
+statements-loop-preserved t c =
+    let i = c.loop.invariant in
+    let k = rw (i.same.table, i.same.depth) at c.in_ok-next.ensures.ran in
+    let p = first-statement i.ready (omega arith) _ k.ends in
+    let e : c.args.count - c.loop.counter - 1 ≡ c.args.count - (c.loop.counter + 1) = omega arith in
+    rw (← e) record {
+      runs = i.runs ∙ rw p.is ((by-rules (setting_in c.args.self.now)).of_then _ _ _ _
+          ∙ goes_on _ _ _ k.runs);
+      ready = p.others _ (record { bindings = k.kept; names = omega arith; words = omega arith });
+      ends = p.ends ∙ i.ends;
+      later = omega (arith, p.later, i.later);
+      fuel = omega (arith, k.fuel, i.fuel);
+      bound = k.kept ∙ i.bound;
+      same = search rules;
+    }
 
 pub statements-returns-clause-ran : goal.statements-returns-clause-ran
 statements-returns-clause-ran t c =
-    let s = c.statement.ensures.same in
-    let k = c.in_ok-first.ensures.ran in
-    let j = rw (s.table, s.depth) at c.statements.ensures.ran in
-    let p = first-statement c.requires (omega arith) c.in_ok-first.first.next k.ends in
-    follows _ k.kept k.fuel p.ends j
-    (rw p.is ((by-rules (setting_in c.args.self.now)).of_then _ _ _ _
-    ∙ goes_on _ _ _ k.runs))
+    let i = c.loop.invariant in
+    let z : c.args.count - c.loop.counter ≡ 0 = omega arith in
+    record {
+      runs = i.runs ∙ rw z ((by-rules (setting_in c.args.self.now)).of_no_statement _ _);
+      fuel = i.fuel;
+      kept = i.bound;
+      ends = omega (arith, rw z at i.ends);
+    }
 
 pub statement-expression-requires : goal.statement-expression-requires
 statement-expression-requires t c =
