@@ -89,18 +89,18 @@ writes place b l r bs e f =
     ∙ ap (λ (r : Result ℤ Stop). shown (λ w. w) r (state (record l { bays = bs }))) (sym e))
 
 -- A call that may be entered comes to what its function's body comes to.
-pub call-runs : (S : Setting ℤ) (place x : ℕ) (es : Arguments) (calls : ℕ) (σ τ : State ℤ) (gs : List ℤ) (k v n : ℕ)
+pub call-runs : (S : Setting ℤ) (place x : ℕ) (es : Arguments) (calls : ℕ) (σ τ : State ℤ) (gs : List ℤ) (k n : ℕ)
     (f : Function) (b : Statement) (ps : List ℕ) (φ : State ℤ) →
     arguments_run S es calls [] σ ≡ value (reverse (take k gs)) τ → function_named x S.functions ≡ Some f →
-    eqb calls S.depth ≡ false → τ.fuel ≡ suc n → f.body ≡ b → f.parameters ≡ ps → k ≡ v →
-    φ ≡ bind_parameters ps (reverse (take v gs)) (with_fuel n τ) →
+    eqb calls S.depth ≡ false → τ.fuel ≡ suc n → f.body ≡ b → f.parameters ≡ ps →
+    φ ≡ bind_parameters ps (reverse (take k gs)) (with_fuel n τ) →
     expression_run S (call place x es) calls σ
     ≡ leave_call (zero_word S.kind) (with_fuel n τ) (statement_run S b (calls + 1) φ)
-call-runs S place x es calls σ τ gs k v n f b ps φ h e o z eb ep ek eφ =
+call-runs S place x es calls σ τ gs k n f b ps φ h e o z eb ep eφ =
     (by-rules S).of_call _ _ _ _ _
     ∙ (goes_on _ _ _ h
     ∙ (entered S (λ calls s σ. statement_run S s calls σ) place calls f e _ τ o n z
-    ∙ rw (eb, ep, ek, eφ, add-one calls) refl))
+    ∙ rw (eb, ep, eφ, add-one calls) refl))
 
 pub no-function : (S : Setting ℤ) (deep : ℕ → Statement → State ℤ → Outcome ℤ ℤ)
     (place calls : ℕ) {o : Option Function} → o ≡ None →

@@ -1,5 +1,5 @@
 // The walk of expressions, argument lists, calls, statements, whiles and blocks, each of which calls others.
-ghost use Rattle.std.specs.Prelude.{◌+◌, ◌≤◌, reverse, length, take};
+ghost use Rattle.std.specs.Prelude.{◌≤◌, [], reverse, length, take};
 ghost use Rattle.script.specs.declared.rows.NodeKind.TheVariants as is;
 ghost use Rattle.walk.specs.Lent.{Same};
 ghost use Rattle.walk.specs.Ready.{Is};
@@ -16,7 +16,7 @@ use script::Ending;
 use script::rows::NodeKind;
 use syntax::parts::{node_kind, part_count, statement_count};
 
-// `opened` calls are open. Argument lists and statements recurse like the rest of the ring, by a rule of the project.
+// `opened` calls are open.
 impl<'a> Walker<'a> {
     #[cycle(walk)]
     pub fn expression(&mut self, at: usize, opened: usize) -> Result<Valued, Stop>
@@ -64,7 +64,7 @@ impl<'a> Walker<'a> {
         }
     }
 
-    // The words of `count` arguments, onto the `from` words given so far; the index after them.
+    // The words of `count` arguments, into `given`; the index after them.
     #[cycle(walk)]
     fn arguments(
         &mut self,
@@ -72,20 +72,19 @@ impl<'a> Walker<'a> {
         at: usize,
         opened: usize,
         given: &mut [i32],
-        from: usize,
     ) -> Result<usize, Stop>
         requires ready { ArgumentsAhead self.old opened at count }
-        requires given { from + count ≤ length given.old }
-        ensures ran { ArgumentsWalked self.old self.new opened at count (reverse (take from given.old))
-            (reverse (take (from + count) given.new)) result }
+        requires given { count ≤ length given.old }
+        ensures ran { ArgumentsWalked self.old self.new opened at count [] (reverse (take count given.new)) result }
         ensures same { Same self.old self.new }
     {
-        if count == 0 {
-            return Ok(at);
+        let mut next = at;
+        for k in 0..count {
+            let x = self.expression(next, opened)?;
+            given[k] = x.word;
+            next = x.next;
         }
-        let x = self.expression(at, opened)?;
-        given[from] = x.word;
-        self.arguments(count - 1, x.next, opened, given, from + 1)
+        Ok(next)
     }
 
     #[cycle(walk)]
@@ -98,7 +97,7 @@ impl<'a> Walker<'a> {
         let node = self.table[at];
         let count = part_count(node);
         let mut given = [0; 15];
-        let next = self.arguments(count, at + 1, opened, &mut given, 0)?;
+        let next = self.arguments(count, at + 1, opened, &mut given)?;
         let Some(f) = function(self.table, node.a) else {
             return Ok(Valued { word: 0, next });
         };
@@ -201,10 +200,10 @@ impl<'a> Walker<'a> {
         ensures ran { StatementsWalked self.old self.new opened at count result }
         ensures same { Same self.old self.new }
     {
-        if count == 0 {
-            return Ok(at);
+        let mut next = at;
+        for _ in 0..count {
+            next = self.statement(next, opened)?.next;
         }
-        let first = self.statement(at, opened)?;
-        self.statements(count - 1, first.next, opened)
+        Ok(next)
     }
 }

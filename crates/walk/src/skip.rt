@@ -5,20 +5,20 @@ ghost use Rattle.syntax.specs.Trees.{tree_at, pieces, size, sizes};
 use script::Record;
 use script::rows::part_count;
 
-// The index after `count` parts from `at`. Parts have parts, so this stays a recursive function, by a rule of the project.
+// The index after `count` parts from `at`. Parts have parts, so it calls itself.
 fn past(table: &[Record], count: usize, at: usize) -> usize
     requires { at ≤ length table.now }
     ensures next { result ≡ at + sizes (pieces table.now at count) }
     ensures within { result ≤ length table.now }
 {
-    if count == 0 {
-        return at;
+    let mut next = at;
+    for _ in 0..count {
+        if next >= table.len() {
+            return next;
+        }
+        next = past(table, part_count(table[next]), next + 1);
     }
-    if at >= table.len() {
-        return at;
-    }
-    let next = past(table, part_count(table[at]), at + 1);
-    past(table, count - 1, next)
+    next
 }
 
 // The index after the part at `at`.

@@ -1,14 +1,13 @@
-use Rattle.std.proofs.Common.{◌≡◌, ℕ, suc, ◌+◌, ◌-◌, ◌<◌, true, false, List, ◌∷◌, reverse, length, get_or, take, set, ℤ, pos, sym, refl, ap, ◌∙◌, add-one, arith, length-set, w32, SFits, to_z, of_z, rules}
+use Rattle.std.proofs.Common.{◌≡◌, suc, ◌+◌, ◌-◌, ◌<◌, true, false, ◌∷◌, reverse, length, get_or, take, set, ℤ, pos, sym, refl, ap, ◌∙◌, add-one, arith, w32, SFits, to_z, of_z, rules}
 use Rattle.std.proofs.lemmas.Int.{to_z-of_z}
 use Rattle.std.proofs.lemmas.List.{length-take-le}
 use Rattle.kinds.specs.Counter.{counter}
 use Rattle.script.specs.declared.rows.NodeKind.TheVariants as is
-use Rattle.syntax.specs.Syntax.{no_argument, no_statement}
-use Rattle.syntax.specs.Trees.{tree_at, pieces, sizes, no_record}
-use Rattle.syntax.specs.Typed.{arguments_at, statements_at, function_of, node_at}
+use Rattle.syntax.specs.Trees.{tree_at, no_record}
+use Rattle.syntax.specs.Typed.{statements_at, function_of, node_at}
 use Rattle.syntax.proofs.Shapes.{simple-kind}
 use Rattle.treerun.specs.TreeRun.{State, value, leave_block, leave_call}
-use Rattle.treerun.specs.Laws.{arguments_run, statement_run, statements_run}
+use Rattle.treerun.specs.Laws.{statement_run, statements_run}
 use Rattle.treerun.proofs.ByRules.{by-rules}
 use Rattle.walk.specs.declared.state.Stop.TheVariants.{Returned, Ended}
 use Rattle.walk.specs.Lent.{Lent, lent_in, state}
@@ -237,116 +236,97 @@ expression-returns-in_default-clause-ran t c =
     c.in_default.not-TwoPart
     c.in_default.not-Assignment c.in_default.not-Call c.in_default.not-BayRead c.in_default.not-BayWrite)
 
-pub arguments-returns-then-count-eq0-clause-ran : goal.arguments-returns-then-count-eq0-clause-ran
-arguments-returns-then-count-eq0-clause-ran t c =
-    let z = c.if-count-eq0.true in
-    let e : arguments_at c.args.self.now.table.now c.args.at c.args.count ≡ no_argument =
-    ap (λ (n : ℕ). arguments_at c.args.self.now.table.now c.args.at n) z in
-    let s : sizes (pieces c.args.self.now.table.now c.args.at c.args.count) ≡ 0 =
-    ap (λ (n : ℕ). sizes (pieces c.args.self.now.table.now c.args.at n)) z in
-    let n : c.args.from ≡ c.args.from + c.args.count = omega arith in
-    record {
-      runs = rw e ((by-rules (setting_in c.args.self.now)).of_no_argument _ _ _
-          ∙ ap (λ (n : ℕ). value (reverse (take n c.args.given.now))
-          (state (lent_in c.args.self.now))) n);
-      fuel = omega arith;
-      kept = refl;
-      ends = omega arith;
-    }
-
 pub arguments-expression-requires : goal.arguments-expression-requires
 arguments-expression-requires t c =
-    let p = first-argument c.requires.ready (omega arith) _ refl in
-    (omega arith, p.first)
+    let i = c.loop-k.invariant in
+    let p = first-argument i.ready (omega arith) _ refl in
+    rw (i.same.table, i.same.depth) (omega (arith, p.first.part.within, i.later), p.first)
 
 pub arguments-returns-in_err-x-clause-ran : goal.arguments-returns-in_err-x-clause-ran
 arguments-returns-in_err-x-clause-ran t c =
-    let p = first-argument c.requires.ready (omega arith) _ refl in
-    let k = c.in_err-x.ensures.ran in
-    passes c.from_residual.ensures.1 (omega arith)
-    (omega arith) k
-    (rw p.is ((by-rules (setting_in c.args.self.now)).of_argument _ _ _ _ _
+    let i = c.loop-k.invariant in
+    let p = first-argument i.ready (omega arith) _ refl in
+    let k = rw (i.same.table, i.same.depth) at c.in_err-x.ensures.ran in
+    passes c.from_residual.ensures.1 (omega (arith, i.bound)) i.fuel k
+    (i.runs ∙ rw p.is ((by-rules (setting_in c.args.self.now)).of_argument _ _ _ _ _
     ∙ stops _ _ _ k.runs))
 
-pub arguments-arguments-requires : goal.arguments-arguments-requires
-arguments-arguments-requires t c =
-    let s = c.expression.ensures.same in
-    let k = c.in_ok-x.ensures.ran in
-    let p = first-argument c.requires.ready (omega arith) c.in_ok-x.x.next k.ends in
-    let r = p.others (lent_in c.expression.new.self)
-    (same-room s k.kept) in
-    rw (s.table, s.depth) (omega (arith, p.first.part.within, p.later), (r, simp length-set (omega (arith, c.requires.given))))
+pub arguments-loop-k-preserved : goal.arguments-loop-k-preserved
+arguments-loop-k-preserved t c =
+    let i = c.loop-k.invariant in
+    let k = rw (i.same.table, i.same.depth) at c.in_ok-x.ensures.ran in
+    let p = first-argument i.ready (omega arith) _ k.ends in
+    let e : c.args.count - c.loop-k.k - 1 ≡ c.args.count - (c.loop-k.k + 1) = omega arith in
+    let f : SFits w32 c.in_ok-x.x.word = search rules in
+    let g : reverse (take (c.loop-k.k + 1) (set c.loop-k.given c.loop-k.k (to_z w32 (of_z w32 c.in_ok-x.x.word))))
+    ≡ c.in_ok-x.x.word ∷ reverse (take c.loop-k.k c.loop-k.given) =
+    rw (add-one c.loop-k.k, to_z-of_z w32 c.in_ok-x.x.word f)
+    (rev-set c.loop-k.given c.loop-k.k c.in_ok-x.x.word (omega (arith, c.requires.given))) in
+    rw (g, ← e) record {
+      runs = i.runs ∙ rw p.is ((by-rules (setting_in c.args.self.now)).of_argument _ _ _ _ _
+          ∙ goes_on _ _ _ k.runs);
+      ready = p.others _ (same-room c.expression.ensures.same k.kept);
+      ends = p.ends ∙ i.ends;
+      later = omega (arith, p.later, i.later);
+      fuel = omega (arith, k.fuel, i.fuel);
+      bound = k.kept ∙ i.bound;
+      same = search rules;
+    }
 
 pub arguments-returns-clause-ran : goal.arguments-returns-clause-ran
 arguments-returns-clause-ran t c =
-    let s = c.expression.ensures.same in
-    let k = c.in_ok-x.ensures.ran in
-    let j = c.arguments.ensures.ran in
-    let p = first-argument c.requires.ready (omega arith) c.in_ok-x.x.next k.ends in
-    let w : ℤ = c.in_ok-x.x.word in
-    let f : SFits w32 c.in_ok-x.x.word = search rules in
-    let gs : List ℤ = c.args.given.now in
-    let x : reverse (take (c.args.from + 1) (set gs c.args.from
-    (to_z w32 (of_z w32 c.in_ok-x.x.word))))
-    ≡ c.in_ok-x.x.word ∷ reverse (take c.args.from gs) =
-    rw (add-one c.args.from, to_z-of_z w32 c.in_ok-x.x.word f)
-    (rev-set gs c.args.from c.in_ok-x.x.word (omega (arith, c.requires.given))) in
-    let n : c.args.from + 1 + (c.args.count - 1) ≡ c.args.from + c.args.count = omega arith in
-    let j' = rw (n, s.table, s.depth) at j in
-    follows _ k.kept k.fuel p.ends j'
-    (rw p.is ((by-rules (setting_in c.args.self.now)).of_argument _ _ _ _ _
-    ∙ (goes_on _ _ _ k.runs
-    ∙ ap (λ (us : List ℤ). arguments_run (setting_in c.args.self.now)
-    (arguments_at c.args.self.now.table.now c.in_ok-x.x.next (c.args.count - 1))
-    c.args.opened us
-    (state (lent_in c.expression.new.self))) (sym x))))
-
-pub statements-returns-then-count-eq0-clause-ran : goal.statements-returns-then-count-eq0-clause-ran
-statements-returns-then-count-eq0-clause-ran t c =
-    let z = c.if-count-eq0.true in
-    let e : statements_at c.args.self.now.table.now c.args.at c.args.count ≡ no_statement =
-    ap (λ (n : ℕ). statements_at c.args.self.now.table.now c.args.at n) z in
-    let s : sizes (pieces c.args.self.now.table.now c.args.at c.args.count) ≡ 0 =
-    ap (λ (n : ℕ). sizes (pieces c.args.self.now.table.now c.args.at n)) z in
+    let z : c.args.count - c.loop-k.k ≡ 0 = omega arith in
+    let e : c.loop-k.k ≡ c.args.count = omega arith in
+    let i = rw (z, e) at c.loop-k.invariant in
     record {
-      runs = rw e ((by-rules (setting_in c.args.self.now)).of_no_statement _ _);
-      fuel = omega arith;
-      kept = refl;
-      ends = omega arith;
+      runs = i.runs ∙ (by-rules (setting_in c.args.self.now)).of_no_argument _ _ _;
+      fuel = i.fuel;
+      kept = i.bound;
+      ends = omega (arith, i.ends);
     }
 
 pub statements-statement-requires : goal.statements-statement-requires
 statements-statement-requires t c =
-    let p = first-statement c.requires (omega arith) _ refl in
-    (omega arith, p.first)
+    let i = c.loop.invariant in
+    let p = first-statement i.ready (omega arith) _ refl in
+    rw (i.same.table, i.same.depth) (omega (arith, p.first.part.within, i.later), p.first)
 
-pub statements-returns-in_err-first-clause-ran : goal.statements-returns-in_err-first-clause-ran
-statements-returns-in_err-first-clause-ran t c =
-    let p = first-statement c.requires (omega arith) _ refl in
-    let k = c.in_err-first.ensures.ran in
-    passes c.from_residual.ensures.1 (omega arith)
-    (omega arith) k
-    (rw p.is ((by-rules (setting_in c.args.self.now)).of_then _ _ _ _
+pub statements-returns-in_err-next-clause-ran : goal.statements-returns-in_err-next-clause-ran
+statements-returns-in_err-next-clause-ran t c =
+    let i = c.loop.invariant in
+    let p = first-statement i.ready (omega arith) _ refl in
+    let k = rw (i.same.table, i.same.depth) at c.in_err-next.ensures.ran in
+    passes c.from_residual.ensures.1 (omega (arith, i.bound)) i.fuel k
+    (i.runs ∙ rw p.is ((by-rules (setting_in c.args.self.now)).of_then _ _ _ _
     ∙ stops _ _ _ k.runs))
 
-pub statements-statements-requires : goal.statements-statements-requires
-statements-statements-requires t c =
-    let s = c.statement.ensures.same in
-    let k = c.in_ok-first.ensures.ran in
-    let p = first-statement c.requires (omega arith) c.in_ok-first.first.next k.ends in
-    let r = p.others (lent_in c.statement.new.self)
-    (same-room s k.kept) in
-    rw (s.table, s.depth) (omega (arith, p.first.part.within, p.later), r)
+pub statements-loop-preserved : goal.statements-loop-preserved
+statements-loop-preserved t c =
+    let i = c.loop.invariant in
+    let k = rw (i.same.table, i.same.depth) at c.in_ok-next.ensures.ran in
+    let p = first-statement i.ready (omega arith) _ k.ends in
+    let e : c.args.count - c.loop.counter - 1 ≡ c.args.count - (c.loop.counter + 1) = omega arith in
+    rw (← e) record {
+      runs = i.runs ∙ rw p.is ((by-rules (setting_in c.args.self.now)).of_then _ _ _ _
+          ∙ goes_on _ _ _ k.runs);
+      ready = p.others _ (record { bindings = k.kept; names = omega arith; words = omega arith });
+      ends = p.ends ∙ i.ends;
+      later = omega (arith, p.later, i.later);
+      fuel = omega (arith, k.fuel, i.fuel);
+      bound = k.kept ∙ i.bound;
+      same = search rules;
+    }
 
 pub statements-returns-clause-ran : goal.statements-returns-clause-ran
 statements-returns-clause-ran t c =
-    let s = c.statement.ensures.same in
-    let k = c.in_ok-first.ensures.ran in
-    let j = rw (s.table, s.depth) at c.statements.ensures.ran in
-    let p = first-statement c.requires (omega arith) c.in_ok-first.first.next k.ends in
-    follows _ k.kept k.fuel p.ends j
-    (rw p.is ((by-rules (setting_in c.args.self.now)).of_then _ _ _ _
-    ∙ goes_on _ _ _ k.runs))
+    let i = c.loop.invariant in
+    let z : c.args.count - c.loop.counter ≡ 0 = omega arith in
+    record {
+      runs = i.runs ∙ rw z ((by-rules (setting_in c.args.self.now)).of_no_statement _ _);
+      fuel = i.fuel;
+      kept = i.bound;
+      ends = omega (arith, rw z at i.ends);
+    }
 
 pub statement-expression-requires : goal.statement-expression-requires
 statement-expression-requires t c =
@@ -808,9 +788,9 @@ call-returns-clause-ran t c =
     let υ : State ℤ = state lent₁ in
     let v = c.statement.ensures.same in
     let y = call-runs (setting_in c.args.self.now) c.args.at _ _ c.args.opened _ (state (lent_in c.arguments.new.self))
-    c.arguments.new.given (0 + c.part_count-count.result) c.part_count-count.result
+    c.arguments.new.given c.part_count-count.result
     (c.arguments.new.self.fuel - 1) (function_of (tree_at c.args.self.now.table.now c.in-Some.f)) _ _
-    (state (lent_in c.bind.new.self)) k.runs l.is (eqb-ne _ _ o) z n.body n.parameters (omega arith)
+    (state (lent_in c.bind.new.self)) k.runs l.is (eqb-ne _ _ o) z n.body n.parameters
     (rw (s.table, g) at c.bind.ensures.bound) in
     elim c.match-statement.branch [
       | call-in-Ok w ↦
@@ -850,9 +830,9 @@ call-returns-in-Err-Ended-clause-ran t c =
     let υ : State ℤ = state lent₁ in
     let v = c.statement.ensures.same in
     let y = call-runs (setting_in c.args.self.now) c.args.at _ _ c.args.opened _ (state (lent_in c.arguments.new.self))
-    c.arguments.new.given (0 + c.part_count-count.result) c.part_count-count.result
+    c.arguments.new.given c.part_count-count.result
     (c.arguments.new.self.fuel - 1) (function_of (tree_at c.args.self.now.table.now c.in-Some.f)) _ _
-    (state (lent_in c.bind.new.self)) k.runs l.is (eqb-ne _ _ o) z n.body n.parameters (omega arith)
+    (state (lent_in c.bind.new.self)) k.runs l.is (eqb-ne _ _ o) z n.body n.parameters
     (rw (s.table, g) at c.bind.ensures.bound) in
     let j = rw (u.table, u.depth, s.table, s.depth) at (recast (Ended c.in-Err-Ended.end) c.in-Err-Ended.field-0-is c.in-Err-Ended.ensures.ran) in
     record {

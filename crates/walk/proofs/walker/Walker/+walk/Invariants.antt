@@ -1,9 +1,11 @@
-use Rattle.std.proofs.Common.{◌≡◌, ℕ, ◌+◌, ◌-◌, ◌*◌, ◌≤◌, length}
-use Rattle.syntax.specs.Typed.{statement_at}
-use Rattle.treerun.specs.Laws.{statement_run}
+use Rattle.std.proofs.Common.{◌≡◌, ℕ, ◌+◌, ◌-◌, ◌*◌, ◌≤◌, [], reverse, length, take}
+use Rattle.syntax.specs.Trees.{pieces, sizes}
+use Rattle.syntax.specs.Typed.{arguments_at, statement_at, statements_at}
+use Rattle.treerun.specs.Laws.{arguments_run, statement_run, statements_run}
 use Rattle.walk.specs.declared.walker.Walker.{Walker}
 use Rattle.walk.specs.Lent.{lent_in, state, Same}
 use Rattle.walk.specs.Parts.{setting_in}
+use Rattle.walk.specs.Ready.{ReadyArguments, ReadyStatements}
 use Rattle.walk.proofs.walker.Walker.+walk.Given as goal
 
 -- The calls that may yet be opened, each with a whole table to walk, then the records left, then the method's rank.
@@ -45,3 +47,33 @@ invariant-repeat-loop-self l =
 
 abbrev pub decreases-repeat-loop-self : goal.decreases-repeat-loop-self
 decreases-repeat-loop-self l = l.self.fuel
+
+-- The arguments that are left run as all do, onto the words given so far.
+abbrev pub invariant-arguments-loop-k : goal.invariant-arguments-loop-k
+invariant-arguments-loop-k l =
+    let w = l.initial.self in record {
+      runs : arguments_run (setting_in w) (arguments_at w.table.now l.at l.count) l.opened [] (state (lent_in w))
+          ≡ arguments_run (setting_in w) (arguments_at w.table.now l.next (l.count - l.k)) l.opened
+          (reverse (take l.k l.given)) (state (lent_in l.self));
+      ready : ReadyArguments w.table.now w.depth l.opened l.next (l.count - l.k) (lent_in l.self);
+      ends : l.next + sizes (pieces w.table.now l.next (l.count - l.k)) ≡ l.at + sizes (pieces w.table.now l.at l.count);
+      later : l.at ≤ l.next;
+      fuel : l.self.fuel ≤ w.fuel;
+      bound : l.self.bound ≡ w.bound;
+      same : Same w l.self;
+    }
+
+-- The statements that are left run as all do.
+abbrev pub invariant-statements-loop : goal.invariant-statements-loop
+invariant-statements-loop l =
+    let w = l.initial.self in record {
+      runs : statements_run (setting_in w) (statements_at w.table.now l.at l.count) l.opened (state (lent_in w))
+          ≡ statements_run (setting_in w) (statements_at w.table.now l.next (l.count - l.counter)) l.opened
+          (state (lent_in l.self));
+      ready : ReadyStatements w.table.now w.depth l.opened l.next (l.count - l.counter) (lent_in l.self);
+      ends : l.next + sizes (pieces w.table.now l.next (l.count - l.counter)) ≡ l.at + sizes (pieces w.table.now l.at l.count);
+      later : l.at ≤ l.next;
+      fuel : l.self.fuel ≤ w.fuel;
+      bound : l.self.bound ≡ w.bound;
+      same : Same w l.self;
+    }
