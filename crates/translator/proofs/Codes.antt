@@ -67,15 +67,15 @@ module _ (globals : List ℕ) (functions : List Signature) (leave : Operation) (
       rw (← inner-is, ← end_is) (e₈ ∙ rw b₇ (simp append_assoc))
 
   -- A statement of a block and its POP, then the others.
-  pub then-code : (a : ℕ) (s : Statement) (ss : Statements) (before first popped all : List Instruction)
+  pub then-code : (a : ℕ) (s : Statement) (ss : Statements) (before first popped : List Instruction)
       (start rest : ℕ) → length before ≡ start → length popped ≡ rest →
       first ≡ before ++ statement_code globals functions leave s own start → popped ≡ first ++ op a Pop ∷ [] →
-      all ≡ popped ++ block_code globals functions leave ss own a rest →
-      all ≡ before ++ block_code globals functions leave (then s ss) own a start
-  then-code a s ss before first popped all start rest l₀ l₂ e₁ e₂ e₃ =
+      popped ++ block_code globals functions leave ss own a rest
+      ≡ before ++ block_code globals functions leave (then s ss) own a start
+  then-code a s ss before first popped start rest l₀ l₂ e₁ e₂ =
       let c : List Instruction = statement_code globals functions leave s own start in
       let rest-is : rest ≡ suc (start + length c) = omega (arith, length-append {A = Instruction}, ap length e₁, ap length e₂) in
-      rw (← rest-is) (e₃ ∙ rw (e₂, e₁) (simp append_assoc))
+      rw (← rest-is) (rw (e₂, e₁) (simp append_assoc))
 
   pops-are : (a : ℕ) (ds : List VariableDeclaration) → replicate (length ds) (op a Pop) ≡ pop_locals a ds
   pops-are a [] = refl

@@ -7,8 +7,8 @@ use Rattle.names.specs.declared.context.Context.{Context}
 use Rattle.code.specs.declared.instruction.Operation.{Operation}
 use Rattle.code.specs.Scheme.{block_code}
 use Rattle.translator.specs.declared.emitter.Emitter.{Emitter}
-use Rattle.translator.specs.Emitting.{SameLoans, Keeps, operation_here, expression_here, arguments_here}
-use Rattle.translator.specs.Emitting.{statement_from, statement_here, statements_from, statements_here}
+use Rattle.translator.specs.Emitting.{SameLoans, Keeps, operation_here, expression_here}
+use Rattle.translator.specs.Emitting.{statement_from, statement_here, statements_here}
 
 -- Steps one after another.
 pub same_loans : {a b c : Emitter} → SameLoans a b → SameLoans b c → SameLoans a c
@@ -41,12 +41,5 @@ module _ (a e : Emitter) where
     pub expression-kept : (at : ℕ) → expression_here e at ≡ expression_here a at
     expression-kept at = rw (k.loans.context, k.names) refl
 
-    pub arguments-kept : (at count : ℕ) → arguments_here e at count ≡ arguments_here a at count
-    arguments-kept at count = rw (k.loans.context, k.names) refl
-
     pub statement-kept : (leave : Operation) (at : ℕ) → statement_here e leave at ≡ statement_from a leave at (vec_len e.code.now)
     statement-kept leave at = rw (k.loans.context, k.names) refl
-
-    pub statements-kept : (leave : Operation) (at count place : ℕ) →
-        statements_here e leave at count place ≡ statements_from a leave at count place (vec_len e.code.now)
-    statements-kept leave at count place = statements-under k.loans leave at count place _ (ap reverse k.names)

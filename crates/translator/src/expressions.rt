@@ -104,10 +104,10 @@ impl Emitter<'_, '_> {
         ensures keeps { Keeps self.old self.new }
         ensures next { result ≡ at + sizes (pieces self.old.context.table.now at count) }
     {
-        if count == 0 {
-            return at;
+        let mut next = at;
+        for _ in 0..count {
+            next = self.expression(next);
         }
-        let next = self.expression(at);
-        self.arguments(count - 1, next)
+        next
     }
 }

@@ -141,11 +141,11 @@ impl Emitter<'_, '_> {
         ensures keeps { Keeps self.old self.new }
         ensures next { result ≡ at + sizes (pieces self.old.context.table.now at count) }
     {
-        if count == 0 {
-            return at;
+        let mut next = at;
+        for _ in 0..count {
+            next = self.statement(next, leave);
+            self.append(Operation::Pop, place);
         }
-        let next = self.statement(at, leave);
-        self.append(Operation::Pop, place);
-        self.statements(count - 1, place, next, leave)
+        next
     }
 }

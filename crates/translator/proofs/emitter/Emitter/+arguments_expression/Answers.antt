@@ -1,51 +1,47 @@
-use Rattle.std.proofs.Common.{◌+◌, ◌-◌, ◌<◌, [], ◌∷◌, reverse, vec_items, refl, ap, ◌∙◌, arith}
+use Rattle.std.proofs.Common.{◌≡◌, ◌+◌, ◌-◌, ◌<◌, [], ◌∷◌, reverse, vec_items, refl, ap, ◌∙◌, arith}
 use Rattle.stack.specs.Store.{contents}
 use Rattle.syntax.specs.Trees.{no_record}
 use Rattle.syntax.proofs.Expressions.{expressed, firsts}
 use Rattle.code.specs.declared.instruction.Operation.{Operation}
 use Rattle.code.specs.Scheme.{op}
 use Rattle.translator.specs.declared.emitter.Emitter.{Emitter}
-use Rattle.translator.specs.Emitting.{expression_here, arguments_here}
-use Rattle.translator.proofs.Emitters.{kept, same_table, operation-kept, arguments-kept}
+use Rattle.translator.specs.Emitting.{arguments_here}
+use Rattle.translator.proofs.Declared.{moved}
+use Rattle.translator.proofs.Emitters.{kept, same_table, operation-kept, expression-kept}
 use Rattle.translator.proofs.Lists.{joined, put_as}
 use Rattle.translator.proofs.Parts.{expression-code}
 use Rattle.translator.proofs.emitter.Emitter.+arguments_expression.Goals as goal
 
 pub arguments-expression-next-requires : goal.arguments-expression-next-requires
 arguments-expression-next-requires t c =
-    let k : 0 < c.args.count = omega arith in
-    let p = firsts c.args.self.now.context.table.now c.args.at c.args.count _ _ k c.requires.parts.sound refl in
-    (omega arith, (record { within = p.within; sound = p.first }, omega (arith, p.whole)))
-
-pub arguments-arguments-requires : goal.arguments-arguments-requires
-arguments-arguments-requires t c =
-    let k : 0 < c.args.count = omega arith in
-    let p = firsts c.args.self.now.context.table.now c.args.at c.args.count c.expression-next.result _ k
-    c.requires.parts.sound c.expression-next.ensures.next in
-    rw (same_table c.args.self.now c.expression-next.new.self c.expression-next.ensures.keeps.loans) (
-      omega (arith, p.later, p.ends, p.within),
-      (record { within = omega (arith, p.ends); sound = p.others }, omega (arith, p.whole)),
+    let a : Emitter = c.args.self.now in
+    let k : 0 < c.args.count - c.loop.counter = omega arith in
+    let left = c.loop.invariant in
+    let p = firsts a.context.table.now c.loop.next (c.args.count - c.loop.counter) _ _ k left.left.sound refl in
+    rw (same_table a c.loop.self left.keeps.loans) (
+      omega (arith, p.within, left.further),
+      (record { within = p.within; sound = p.first }, omega (arith, p.whole, left.len, left.keeps.loans.code_capacity)),
     )
 
-pub arguments-returns : goal.arguments-returns
-arguments-returns t c =
+pub arguments-loop-preserved : goal.arguments-loop-preserved
+arguments-loop-preserved t c =
     let a : Emitter = c.args.self.now in
-    let e : Emitter = c.expression-next.new.self in
-    let k : 0 < c.args.count = omega arith in
-    let p = firsts a.context.table.now c.args.at c.args.count c.expression-next.result _ k
-    c.requires.parts.sound c.expression-next.ensures.next in
-    let same = same_table a e c.expression-next.ensures.keeps.loans in
-    let m = rw same at c.arguments.ensures.len in
-    let n = rw same at c.arguments.ensures.next in
-    record {
-      items = rw p.parts
-          (joined (vec_items a.code.now) (expression_here a c.args.at)
-          (arguments_here a c.expression-next.result (c.args.count - 1)) _ _ c.expression-next.ensures.items
-          (put_as _ c.arguments.ensures.items
-          (arguments-kept a e c.expression-next.ensures.keeps c.expression-next.result (c.args.count - 1))));
-      len = omega (arith, p.whole);
-      keeps = kept c.expression-next.ensures.keeps c.arguments.ensures.keeps;
-      next = omega (arith, p.whole);
+    let k : 0 < c.args.count - c.loop.counter = omega arith in
+    let j : c.args.count - c.loop.counter - 1 ≡ c.args.count - (c.loop.counter + 1) = omega arith in
+    let left = c.loop.invariant in
+    let done = c.expression-next.ensures in
+    let same = same_table a c.loop.self left.keeps.loans in
+    let p = firsts a.context.table.now c.loop.next (c.args.count - c.loop.counter) c.expression-next.result _ k left.left.sound
+    (rw same at done.next) in
+    let n = rw same at done.len in
+    rw (← j) record {
+      left = record { within = omega (arith, p.ends); sound = p.others };
+      items = moved _ _ _ _ _ _ refl (rw p.parts at left.items)
+          (put_as _ done.items (expression-kept a c.loop.self left.keeps c.loop.next));
+      len = omega (arith, p.whole, left.len);
+      keeps = kept left.keeps done.keeps;
+      next = omega (arith, p.whole, left.next);
+      further = omega (arith, p.later, left.further);
     }
 
 pub expression-arguments-next-requires : goal.expression-arguments-next-requires

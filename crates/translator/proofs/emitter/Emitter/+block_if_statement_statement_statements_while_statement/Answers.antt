@@ -14,7 +14,7 @@ use Rattle.translator.specs.declared.emitter.Emitter.{Emitter}
 use Rattle.translator.specs.Emitting.{SameLoans, Keeps, expression_here}
 use Rattle.translator.proofs.Lists.{joined, put_as, long}
 use Rattle.translator.proofs.Codes.{if-code, while-code, then-code, block-code}
-use Rattle.translator.proofs.Emitters.{same_loans, kept, same_table, expression-kept, statement-kept, statements-kept, statements-under}
+use Rattle.translator.proofs.Emitters.{same_loans, kept, same_table, expression-kept, statement-kept, statements-under}
 use Rattle.translator.proofs.Steps.{ready, several-ready, halfway, tested, locals, inside}
 use Rattle.translator.proofs.emitter.Emitter.+block_if_statement_statement_statements_while_statement.Goals as goal
 
@@ -292,38 +292,36 @@ statement-returns-in_default t c =
 
 pub statements-statement-next-requires : goal.statements-statement-next-requires
 statements-statement-next-requires t c =
-    let p = firsts _ c.args.at c.args.count _ _ (omega arith) c.requires.parts.sound refl in (
-      omega (arith, p.within),
-      (
-        record { within = p.within; sound = p.first },
-        record { table = c.requires.room.table; names = c.requires.room.names; code = omega (arith, p.whole, c.requires.room.code) },
-      ),
-    )
-
-pub statements-statements-requires : goal.statements-statements-requires
-statements-statements-requires t c =
-    let p = firsts _ c.args.at c.args.count _ _ (omega arith) c.requires.parts.sound c.statement-next.ensures.next in
-    let k = kept c.statement-next.ensures.keeps c.append.ensures.keeps in (
-      omega (arith, p.later, p.ends, p.within, ap length (same_table _ _ k.loans)),
-      several-ready k.loans c.requires.room (omega (arith, p.later, k.height)) (omega (arith, p.ends)) p.others (omega (arith, p.whole)),
-    )
-
-pub statements-returns : goal.statements-returns
-statements-returns t c =
     let a : Emitter = c.args.self.now in
-    let p = firsts _ c.args.at c.args.count _ _ (omega arith) c.requires.parts.sound c.statement-next.ensures.next in
-    let k = kept c.statement-next.ensures.keeps c.append.ensures.keeps in
-    let b = rw (same_table _ _ k.loans) at c.statements.ensures.bound in
-    let n = rw (same_table _ _ k.loans) at c.statements.ensures.next in
-    record {
-      items = rw p.parts
-          (then-code (reverse a.context.globals.now) a.context.functions.now c.args.leave (reverse (contents a.scope.now)) c.args.place
-          (statement_at a.context.table.now c.args.at) (statements_at a.context.table.now c.statement-next.result (c.args.count - 1))
-          (vec_items a.code.now) _ _ _ (vec_len a.code.now) (vec_len c.append.new.self.code.now) (long a.code.now)
-          (long c.append.new.self.code.now) c.statement-next.ensures.items c.append.ensures.items
-          (put_as _ c.statements.ensures.items
-          (statements-kept a c.append.new.self k c.args.leave c.statement-next.result (c.args.count - 1) c.args.place)));
-      bound = (omega arith, omega (arith, p.whole));
-      keeps = kept k c.statements.ensures.keeps;
-      next = omega (arith, p.whole);
+    let left = c.loop.invariant in
+    let p = firsts a.context.table.now c.loop.next (c.args.count - c.loop.counter) _ _ (omega arith) left.left.sound refl in (
+      omega (arith, p.within, left.further, ap length (same_table _ _ left.keeps.loans)),
+      ready left.keeps.loans c.requires.room (omega (arith, left.further, left.keeps.height)) p.within p.first
+          (omega (arith, p.whole, left.bound)),
+    )
+
+pub statements-loop-preserved : goal.statements-loop-preserved
+statements-loop-preserved t c =
+    let a : Emitter = c.args.self.now in
+    let e : Emitter = c.loop.self in
+    let j : c.args.count - c.loop.counter - 1 ≡ c.args.count - (c.loop.counter + 1) = omega arith in
+    let left = c.loop.invariant in
+    let done = c.statement-next.ensures in
+    let same = same_table a e left.keeps.loans in
+    let n = rw same at done.next in
+    let p = firsts a.context.table.now c.loop.next (c.args.count - c.loop.counter) _ _ (omega arith) left.left.sound n in
+    let b = rw same at done.bound in
+    rw (← j) record {
+      left = record { within = omega (arith, p.ends); sound = p.others };
+      items = then-code (reverse a.context.globals.now) a.context.functions.now c.args.leave (reverse (contents a.scope.now)) c.args.place
+          (statement_at a.context.table.now c.loop.next)
+          (statements_at a.context.table.now c.statement-next.result (c.args.count - c.loop.counter - 1))
+          (vec_items e.code.now) _ _ (vec_len e.code.now) _ (long e.code.now) (long c.append.new.self.code.now)
+          (put_as _ done.items (statement-kept a e left.keeps c.args.leave c.loop.next)) c.append.ensures.items
+          ∙ rw p.parts at left.items;
+      longer = omega (arith, left.longer);
+      bound = omega (arith, p.whole, left.bound);
+      keeps = kept left.keeps (kept done.keeps c.append.ensures.keeps);
+      next = omega (arith, p.whole, left.next);
+      further = omega (arith, p.later, left.further);
     }
