@@ -64,7 +64,8 @@ impl<'a> Walker<'a> {
         }
     }
 
-    // The words of `count` arguments, into `given`; the index after them.
+    // The words of `count` arguments, into `given`; the index after them. By an index, since a proof knows nothing of what
+    // was written through `iter_mut`.
     #[cycle(walk)]
     fn arguments(
         &mut self,
