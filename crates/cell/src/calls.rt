@@ -26,7 +26,7 @@ pub enum Call<'a> {
     Stop,
 }
 
-// What a call that is taken answers.
+// What a call that is taken answers. Three cases, so it is neither an Option nor a Result.
 #[derive(Clone, Copy, PartialEq, Eq, Debug)]
 pub enum Answer {
     Taken,

@@ -9,7 +9,6 @@ ghost use Rattle.cell.specs.Showing.{world_in};
 
 use crate::calls::{Answer, State};
 use crate::memory::Cell;
-use code::instruction::Code;
 use machine::outcome::Step;
 use racks::Rack;
 use script::{Refusal, RunEnd};
@@ -55,10 +54,7 @@ impl Cell {
         if words.len() < wanted {
             return Err(Refusal::TooFewWords(wanted));
         }
-        let code = Code {
-            instructions: self.translation.code(),
-            entries: self.translation.entries(),
-        };
+        let code = self.translation.program();
         let run = self.machine.run(words, rack, code, steps);
         let end = end_of(run.outcome);
         self.steps = self.steps.saturating_add(run.made);

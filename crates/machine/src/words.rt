@@ -79,7 +79,7 @@ impl Machine {
         self.fetch_word(words, self.base + slot)
     }
 
-    // Stores the top, which stays, in a slot of the frame.
+    // Stores the top, which stays, in a slot of the frame. The test is the one of `get_local`; what follows differs.
     pub(crate) fn set_local<W: NumberKind + Copy>(&mut self, words: &mut [W], slot: usize) -> Step
         ensures { MakesOnWords (execute (word_image W.NumberKind.kind self.old) (SetL slot) 0)
             self.old words.old result self.new words.new }

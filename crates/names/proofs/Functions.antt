@@ -8,7 +8,7 @@ use Rattle.syntax.specs.Syntax.{VariableDeclaration, declare, Declaration, of_a_
 use Rattle.syntax.specs.Syntax.{functions_of}
 use Rattle.syntax.specs.Trees.{Tree, tree_at, pieces, size, sizes, Leaves, no_record}
 use Rattle.syntax.specs.Typed.{variables_at, statement_at, declarations_at, make_declaration, node_kind}
-use Rattle.names.specs.Parts.{Parts}
+use Rattle.syntax.specs.Trees.{Parts}
 use Rattle.names.specs.declared.context.Context.{Context}
 use Rattle.syntax.proofs.Statements.{declared-first}
 use Rattle.syntax.proofs.Declarations.{FirstFunction}

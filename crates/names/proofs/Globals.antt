@@ -13,7 +13,7 @@ use Rattle.names.specs.declared.frame.Measured.{Measured}
 use Rattle.names.specs.declared.signature.Signature.{Signature}
 use Rattle.names.specs.Need.{need_functions, need_statement}
 use Rattle.names.specs.Names.{◌⨟◌, unless, global_rules, is_function, signature}
-use Rattle.names.specs.Parts.{Parts}
+use Rattle.syntax.specs.Trees.{Parts}
 use Rattle.names.specs.Passes.{outcome, checked_globals}
 use Rattle.names.proofs.Outcomes.{last, twice, went, refused}
 use Rattle.names.proofs.Several.{first}

@@ -4,7 +4,7 @@ use Rattle.script.specs.declared.record.Record.{Record}
 use Rattle.script.specs.declared.rows.Sort.{Sort}
 use Rattle.syntax.specs.Trees.{Forest, none, more, taken, forest, head, sizes, size, pieces, tree_at, Sounds}
 use Rattle.syntax.proofs.Expressions.{firsts}
-use Rattle.names.specs.Parts.{Parts}
+use Rattle.syntax.specs.Trees.{Parts}
 
 pub record First (table : List Record) (at n m : ℕ) (w : Sort) : Type 0 where
   pub first : Parts table at 1 w

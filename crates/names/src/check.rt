@@ -99,6 +99,7 @@ pub fn check_table(table: &[Record]) -> Result<Summary, Refusal>
     ensures meaning { RightlyAnswered table.now result }
 {
     check_sound(table)?;
+    // the two stacks borrow their arrays, so no struct could hold all four
     let mut names: [u16; 128] = [0; 128];
     let mut signatures = [Signature::default(); 128];
     let mut globals = Stack::new(&mut names, 0);

@@ -1,9 +1,9 @@
-// The name rules of an expression and of an argument list, in a ring: the project's rules want the checker as rings.
+// The name rules of an expression and of an argument list, in a ring, since records nest.
 ghost use Rattle.std.specs.Prelude.{◌≡◌, reverse};
 ghost use Rattle.script.specs.declared.rows.Sort.TheVariants.{Expression};
 ghost use Rattle.script.specs.Rows.{node_of};
 ghost use Rattle.syntax.specs.Trees.{Part};
-ghost use Rattle.names.specs.Parts.{Parts};
+ghost use Rattle.syntax.specs.Trees.{Parts};
 ghost use Rattle.names.specs.Passes.{record_rule, checked_expression, checked_arguments};
 
 use crate::context::Context;

@@ -1,11 +1,12 @@
-// The frame need: expression and arguments, statement and statements, in two rings: the project's rules want the
-// checker as rings, and so its two lists of parts stay two functions.
+// The frame need: expression and arguments, statement and statements, in two rings, since records nest. The two lists of
+// parts call each its own ring, and so stay two functions.
 ghost use Rattle.std.specs.Prelude.{◌≡◌, ◌+◌, ◌<◌, ◌≤◌, max};
 ghost use Rattle.script.specs.declared.rows.Sort.TheVariants.{Expression, Statement};
 ghost use Rattle.syntax.specs.Trees.{tree_at, pieces, size, sizes, Part};
 ghost use Rattle.syntax.specs.Typed.{expression_at, arguments_at, statement_at, statements_at};
 ghost use Rattle.names.specs.Need.{need_expression, need_arguments, need_statement, need_statements};
-ghost use Rattle.names.specs.Parts.{Parts, Measures};
+ghost use Rattle.names.specs.Parts.{Measures};
+ghost use Rattle.syntax.specs.Trees.{Parts};
 
 use script::Record;
 use script::rows::NodeKind;

@@ -5,7 +5,7 @@ ghost use Rattle.script.specs.declared.rows.Sort.TheVariants.{Declaration};
 ghost use Rattle.syntax.specs.Syntax.{name_of, variables_of, functions_of};
 ghost use Rattle.syntax.specs.Typed.{declarations_at};
 ghost use Rattle.names.specs.Names.{signature as signature_of};
-ghost use Rattle.names.specs.Parts.{Parts};
+ghost use Rattle.syntax.specs.Trees.{Parts};
 ghost use Rattle.names.specs.Passes.{checked_globals, checked_functions, Grown};
 
 use crate::context::Context;

@@ -1,4 +1,4 @@
-// The name rules of a statement and of several statements, in a ring: the project's rules want the checker as rings.
+// The name rules of a statement and of several statements, in a ring, since records nest.
 // The names in scope lie on a stack, newest on top.
 ghost use Rattle.std.specs.Prelude.{◌≡◌, ◌+◌, ◌≤◌, ◌++◌, map, length, IfOk, OnOk};
 ghost use Rattle.stack.specs.Store.{contents, capacity};
@@ -6,7 +6,7 @@ ghost use Rattle.script.specs.declared.rows.Sort.TheVariants.{Statement};
 ghost use Rattle.syntax.specs.Syntax.{name_of};
 ghost use Rattle.syntax.specs.Trees.{pieces, Leaves, Part};
 ghost use Rattle.syntax.specs.Typed.{variables_at};
-ghost use Rattle.names.specs.Parts.{Parts};
+ghost use Rattle.syntax.specs.Trees.{Parts};
 ghost use Rattle.names.specs.Passes.{checked_locals, checked_statement, checked_statements, Kept};
 
 use crate::context::Context;

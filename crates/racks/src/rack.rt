@@ -42,7 +42,8 @@ pub(crate) fn check_write(slot: usize, length: usize, holds: bool) -> Result<(),
 }
 
 // A rack is a list of words of one number kind, `bays`, and a yes or no for each word: can a bay
-// hold it, `holds`. A list that was lent to the rack goes back as `loan` says.
+// hold it, `holds`. A list that was lent to the rack goes back as `loan` says. That both stay over a call relates two
+// moments, so it is a clause of each call and no invariant.
 pub trait Rack {
     type Word: NumberKind + Copy;
 

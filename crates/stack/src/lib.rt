@@ -6,7 +6,7 @@
 ghost use Rattle.std.specs.Prelude.{◌≡◌, ◌+◌, ◌-◌, length, slice_index_or, slice_set};
 ghost use Rattle.stack.specs.Store.{raised, contents};
 
-/// A stack over words that are lent to it.
+/// A stack over words that are lent to it. That the lender stays relates two moments, so it is a clause of each method.
 #[derive(Drop)]
 pub struct Stack<'a, T> {
     words: &'a mut [T],

@@ -1,5 +1,5 @@
 -- The trees that a list of records in prefix order spells, whatever their kinds.
-use Rattle.std.specs.Prelude.{◌≡◌, ℕ, zero, suc, ◌+◌, ◌<◌, List, [], ◌∷◌, length, drop, pos, Ok}
+use Rattle.std.specs.Prelude.{◌≡◌, ℕ, zero, suc, ◌+◌, ◌<◌, ◌≤◌, List, [], ◌∷◌, length, drop, replicate, pos, Ok}
 use Rattle.script.specs.declared.record.Record.{Record}
 use Rattle.script.specs.declared.rows.Sort.{Sort}
 use Rattle.script.specs.Rows.{row_of}
@@ -83,3 +83,8 @@ Leaves (suc n) (more t ts) = (size t ≡ 1) × Leaves n ts
 pub record Part (table : List Record) (at : ℕ) (w : Sort) : Type 0 where
   pub within : at < length table
   pub sound : Sound (tree_at table at) w
+
+-- So many parts of one sort stand from an index of a table on.
+pub record Parts (table : List Record) (at count : ℕ) (w : Sort) : Type 0 where
+  pub within : at ≤ length table
+  pub sound : Sounds (pieces table at count) (replicate count w)

@@ -10,7 +10,7 @@ use Rattle.syntax.specs.Typed.{variables_at, declarations_at, function_of, node_
 use Rattle.syntax.proofs.Expressions.{firsts}
 use Rattle.syntax.proofs.Statements.{declared-first}
 use Rattle.syntax.proofs.Declarations.{functional, first_function, first-variable}
-use Rattle.translator.specs.Emitting.{Parts}
+use Rattle.syntax.specs.Trees.{Parts}
 
 -- One more piece is put down.
 pub moved : {A : Type 0} (x y p u v all : List A) → u ≡ p ++ v → x ++ u ≡ all → y ≡ x ++ p → y ++ v ≡ all

@@ -7,7 +7,8 @@ use Rattle.syntax.specs.Typed.{node_at, second_parts}
 use Rattle.syntax.proofs.Shapes.{Chosen, chosen, Looped, looped}
 use Rattle.syntax.proofs.Statements.{Blocked, blocked}
 use Rattle.translator.specs.declared.emitter.Emitter.{Emitter}
-use Rattle.translator.specs.Emitting.{Parts, HasRoom, SameLoans, Keeps, EmitsFewer}
+use Rattle.syntax.specs.Trees.{Parts}
+use Rattle.translator.specs.Emitting.{HasRoom, SameLoans, Keeps, EmitsFewer}
 use Rattle.translator.proofs.Emitters.{same_table, kept}
 
 -- Steps leave what comes later its share of the room.

@@ -1,11 +1,10 @@
 -- What an emitter has to have, what it keeps, and what it puts at the end of the code.
-use Rattle.std.specs.Prelude.{◌≡◌, ℕ, ℤ, ◌+◌, ◌*◌, ◌<◌, ◌≤◌, List, ◌++◌, Some, None, Option, map, reverse, length, replicate, vec_items, vec_len, vec_capacity}
+use Rattle.std.specs.Prelude.{◌≡◌, ℕ, ℤ, ◌+◌, ◌*◌, ◌<◌, ◌≤◌, List, ◌++◌, Some, None, Option, map, reverse, length, vec_items, vec_len, vec_capacity}
 use Rattle.stack.specs.Store.{contents, capacity}
 use Rattle.script.specs.declared.record.Record.{Record}
-use Rattle.script.specs.declared.rows.Sort.{Sort}
 use Rattle.script.specs.Rows.{node_of}
 use Rattle.syntax.specs.Syntax.{variables_of, functions_of}
-use Rattle.syntax.specs.Trees.{tree_at, pieces, Sounds}
+use Rattle.syntax.specs.Trees.{tree_at}
 use Rattle.syntax.specs.Typed.{expression_at, arguments_at, statement_at, statements_at, declarations_at, function_of}
 use Rattle.code.specs.declared.instruction.Operation.{Operation}
 use Rattle.code.specs.declared.instruction.Operation.TheVariants.{Pop}
@@ -15,11 +14,6 @@ use Rattle.code.specs.Scheme.{expression_code, arguments_code, statement_code, b
 use Rattle.code.specs.Scheme.{entries_from, number_of}
 use Rattle.translator.specs.Records.{record_operation}
 use Rattle.translator.specs.declared.emitter.Emitter.{Emitter}
-
--- So many parts of one sort stand at an index of a table.
-pub record Parts (table : List Record) (at count : ℕ) (w : Sort) : Type 0 where
-  pub within : at ≤ length table
-  pub sound : Sounds (pieces table at count) (replicate count w)
 
 -- Room for the code of statements of so many records from an index on: four instructions a record suffice, and each name
 -- in scope has a record of its own, those of the statements from that index on. A table has at most 1,024 records.

@@ -35,7 +35,8 @@ fn operator(operator: Operator) -> Operation
 }
 
 impl Emitter<'_, '_> {
-    ghost use Rattle.translator.specs.Emitting.{Parts, Keeps, Emits, IsVariableOperation};
+    ghost use Rattle.syntax.specs.Trees.{Parts};
+    ghost use Rattle.translator.specs.Emitting.{Keeps, Emits, IsVariableOperation};
     ghost use Rattle.translator.specs.Emitting.{operation_here, expression_here, arguments_here};
 
     // The operation on a variable: a name of the frame, or else a global.

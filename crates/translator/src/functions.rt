@@ -12,7 +12,8 @@ use script::rows::NodeKind;
 use syntax::parts::{node_kind, part_count};
 
 impl Emitter<'_, '_> {
-    ghost use Rattle.translator.specs.Emitting.{Parts, HasRoomForFunctions, SameLoans, Emits};
+    ghost use Rattle.syntax.specs.Trees.{Parts};
+    ghost use Rattle.translator.specs.Emitting.{HasRoomForFunctions, SameLoans, Emits};
     ghost use Rattle.translator.specs.Emitting.{function_here, functions_here, entries_here, numbers_here};
 
     // The function at `at`: the index after it.

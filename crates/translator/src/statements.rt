@@ -14,7 +14,8 @@ use script::rows::NodeKind;
 use syntax::parts::{node_kind, statement_count};
 
 impl Emitter<'_, '_> {
-    ghost use Rattle.translator.specs.Emitting.{Parts, HasRoom, SameLoans, Keeps, Emits, EmitsFewer};
+    ghost use Rattle.syntax.specs.Trees.{Parts};
+    ghost use Rattle.translator.specs.Emitting.{HasRoom, SameLoans, Keeps, Emits, EmitsFewer};
     ghost use Rattle.translator.specs.Emitting.{statement_here, statements_here};
 
     // Binds `count` locals of the block at `place`, a record each from `at` on, and pushes the first word of each.

@@ -5,7 +5,7 @@ ghost use Rattle.walk.specs.Walked.{report_on};
 use crate::state::{Stop, Valued};
 use script::Ending;
 
-// Ending and place stay apart: a report tells them as two lines.
+// Ending, place and answer stand apart for every ending, as they do in the report of the tree run.
 #[derive(Clone, Copy)]
 pub struct Report {
     pub ending: Ending,

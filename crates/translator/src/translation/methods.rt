@@ -40,6 +40,7 @@ impl Translation {
             (λ _. length (held self.new).code ≤ 4 * length table.now) }
     {
         check_shape(table)?;
+        // the two stacks borrow their arrays, so no struct could hold all four
         let mut names: [u16; 128] = [0; 128];
         let mut signatures = [Signature::default(); 128];
         let mut globals = Stack::new(&mut names, 0);

@@ -3,7 +3,7 @@ use Rattle.script.specs.declared.rows.Sort.TheVariants.{Expression}
 use Rattle.syntax.specs.Trees.{pieces, sizes}
 use Rattle.syntax.specs.Typed.{arguments_at}
 use Rattle.names.specs.Need.{need_arguments}
-use Rattle.names.specs.Parts.{Parts}
+use Rattle.syntax.specs.Trees.{Parts}
 use Rattle.names.proofs.frame.+arguments_expression.Given as goal
 
 abbrev pub decreases-arguments : goal.decreases-arguments

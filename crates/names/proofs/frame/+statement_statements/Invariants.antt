@@ -3,7 +3,7 @@ use Rattle.script.specs.declared.rows.Sort.TheVariants.{Statement}
 use Rattle.syntax.specs.Trees.{pieces, sizes}
 use Rattle.syntax.specs.Typed.{statements_at}
 use Rattle.names.specs.Need.{need_statements}
-use Rattle.names.specs.Parts.{Parts}
+use Rattle.syntax.specs.Trees.{Parts}
 use Rattle.names.proofs.frame.+statement_statements.Given as goal
 
 abbrev pub decreases-statement : goal.decreases-statement

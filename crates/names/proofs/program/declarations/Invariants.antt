@@ -4,7 +4,7 @@ use Rattle.script.specs.declared.rows.Sort.TheVariants.{Declaration}
 use Rattle.syntax.specs.Syntax.{name_of, variables_of, functions_of}
 use Rattle.syntax.specs.Typed.{declarations_at}
 use Rattle.names.specs.Names.{signature}
-use Rattle.names.specs.Parts.{Parts}
+use Rattle.syntax.specs.Trees.{Parts}
 use Rattle.names.specs.Passes.{checked_globals}
 use Rattle.names.proofs.Globals.{checked_further}
 use Rattle.names.proofs.program.declarations.Given as goal

@@ -1,6 +1,6 @@
 use Rattle.std.proofs.Common.{◌≡◌, ◌+◌, ◌-◌, ◌*◌, ◌≤◌, length}
 use Rattle.script.specs.declared.rows.Sort.TheVariants.{Expression}
-use Rattle.names.specs.Parts.{Parts}
+use Rattle.syntax.specs.Trees.{Parts}
 use Rattle.names.specs.Passes.{checked_arguments}
 use Rattle.names.proofs.context.Context.+arguments_expression.Given as goal
 

@@ -1,7 +1,7 @@
 use Rattle.std.proofs.Common.{◌≡◌, ◌+◌, ◌-◌, ◌*◌, ◌≤◌, length}
 use Rattle.stack.specs.Store.{contents, capacity}
 use Rattle.script.specs.declared.rows.Sort.TheVariants.{Statement}
-use Rattle.names.specs.Parts.{Parts}
+use Rattle.syntax.specs.Trees.{Parts}
 use Rattle.names.specs.Passes.{checked_statements}
 use Rattle.names.proofs.context.Context.+statement_statements.Given as goal
 

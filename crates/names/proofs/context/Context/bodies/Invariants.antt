@@ -1,6 +1,6 @@
 use Rattle.std.proofs.Common.{◌≡◌, ◌-◌}
 use Rattle.script.specs.declared.rows.Sort.TheVariants.{Declaration}
-use Rattle.names.specs.Parts.{Parts}
+use Rattle.syntax.specs.Trees.{Parts}
 use Rattle.names.specs.Passes.{checked_functions}
 use Rattle.names.proofs.context.Context.bodies.Given as goal
 

@@ -1,7 +1,8 @@
 use Rattle.std.proofs.Common.{◌≡◌, ◌+◌, ◌-◌, ◌*◌, ◌≤◌, ◌++◌, length, vec_items, vec_len}
 use Rattle.script.specs.declared.rows.Sort.TheVariants.{Expression}
 use Rattle.syntax.specs.Trees.{pieces, sizes}
-use Rattle.translator.specs.Emitting.{Parts, Keeps, arguments_here}
+use Rattle.syntax.specs.Trees.{Parts}
+use Rattle.translator.specs.Emitting.{Keeps, arguments_here}
 use Rattle.translator.proofs.emitter.Emitter.+arguments_expression.Given as goal
 
 abbrev pub decreases-arguments : goal.decreases-arguments
