@@ -3,18 +3,13 @@ use crate::printing::{print_bays, print_list};
 use crate::wording::{Ended, Numbers, print_refusal};
 use names::check::check_table;
 use racks::BayTable;
-use script::RunEnd;
 use std::io;
 use texts::table::{Settings, TableJob};
 use walk::{Report, walk};
 
 fn print_report(rt: &HostRuntime, report: Report) -> io::Result<()> {
-    let end = RunEnd {
-        ending: report.ending,
-        place: report.place,
-    };
-    println!(rt; "{}", Numbers(end))?;
-    println!(rt; "{}", Ended(end))?;
+    println!(rt; "{}", Numbers(report.end))?;
+    println!(rt; "{}", Ended(report.end))?;
     if let Some(word) = report.answer {
         println!(rt; "answer {word}")?;
     }

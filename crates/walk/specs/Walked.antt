@@ -6,6 +6,7 @@ use Rattle.script.specs.declared.record.Record.{Record}
 use Rattle.script.specs.declared.refusal.Refusal.{Refusal}
 use Rattle.script.specs.declared.refusal.Refusal.TheVariants.{FuelOrDepth, TooFewWords}
 use Rattle.script.specs.declared.ending.Ending.TheVariants.{Done}
+use Rattle.script.specs.declared.ending.RunEnd.{RunEnd}
 use Rattle.script.specs.Sequence.{and_then}
 use Rattle.syntax.specs.Syntax.{Program, globals_of}
 use Rattle.syntax.specs.Typed.{program_of}
@@ -32,11 +33,16 @@ walk_rules table names words fuel depth =
     ⨟ unless (nat_le (room_for (program_of table) depth) names && nat_le (room_for (program_of table) depth) words)
     (TooFewWords (room_for (program_of table) depth)))
 
+-- How a run that is done has ended.
+abbrev pub done : RunEnd
+done = record { ending = Done; place = 0 }
+
 -- What is told of a run that was granted so much fuel. A value and a returned word are the answer of a run that is done.
 abbrev pub told : ℕ → Outcome ℤ ℤ → Report
-told granted (value w σ) = record { ending = Done; place = 0; answer = Some w; ticks = granted - σ.fuel }
-told granted (returned w σ) = record { ending = Done; place = 0; answer = Some w; ticks = granted - σ.fuel }
-told granted (ended e place σ) = record { ending = e; place = place; answer = None; ticks = granted - σ.fuel }
+told granted (value w σ) = record { end = done; answer = Some w; ticks = granted - σ.fuel }
+told granted (returned w σ) = record { end = done; answer = Some w; ticks = granted - σ.fuel }
+told granted (ended e place σ) =
+    record { end = record { ending = e; place = place }; answer = None; ticks = granted - σ.fuel }
 
 pub record Walked : Type 0 where
   pub answer : Result Report Refusal
@@ -65,6 +71,6 @@ walked table names words bays fuel depth =
 
 -- The report on what the code of a run answers.
 abbrev pub report_on : Result Valued Stop → ℕ → Report
-report_on (Ok v) ticks = record { ending = Done; place = 0; answer = Some v.word; ticks = ticks }
-report_on (Err (Returned w)) ticks = record { ending = Done; place = 0; answer = Some w; ticks = ticks }
-report_on (Err (Ended e)) ticks = record { ending = e.ending; place = e.place; answer = None; ticks = ticks }
+report_on (Ok v) ticks = record { end = done; answer = Some v.word; ticks = ticks }
+report_on (Err (Returned w)) ticks = record { end = done; answer = Some w; ticks = ticks }
+report_on (Err (Ended e)) ticks = record { end = e; answer = None; ticks = ticks }

@@ -3,14 +3,12 @@ ghost use Rattle.std.specs.Prelude.{◌≡◌, Ok};
 ghost use Rattle.walk.specs.Walked.{report_on};
 
 use crate::state::{Stop, Valued};
-use script::Ending;
+use script::{Ending, RunEnd};
 
-// Ending, place and answer stand apart for every ending, as they do in the report of the tree run.
-#[derive(Clone, Copy)]
+// An answer beside the end and no Result: the rules tell ending and place of every run, "done" at place 0 too.
+#[derive(Clone, Copy, PartialEq, Eq, Debug)]
 pub struct Report {
-    pub ending: Ending,
-    // the record at which the run ended, or 0
-    pub place: usize,
+    pub end: RunEnd,
     // the word that a run that is done gives
     pub answer: Option<i32>,
     // the fuel spent
@@ -24,8 +22,7 @@ pub fn report_on(outcome: Result<Valued, Stop>, ticks: u32) -> Report
         Ok(value) => done(value.word, ticks),
         Err(Stop::Returned(word)) => done(word, ticks),
         Err(Stop::Ended(end)) => Report {
-            ending: end.ending,
-            place: end.place,
+            end,
             answer: None,
             ticks,
         },
@@ -36,8 +33,10 @@ fn done(word: i32, ticks: u32) -> Report
     ensures { result ≡ report_on (Ok (record { word = word; next = 0 })) ticks }
 {
     Report {
-        ending: Ending::Done,
-        place: 0,
+        end: RunEnd {
+            ending: Ending::Done,
+            place: 0,
+        },
         answer: Some(word),
         ticks,
     }

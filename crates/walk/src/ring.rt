@@ -156,7 +156,7 @@ impl<'a> Walker<'a> {
         }
     }
 
-    // A while: each turn spends one fuel before its test.
+    // A while: each turn spends one fuel before its test. What runs in a turn spends fuel too, so no `for` counts the turns.
     #[cycle(walk)]
     fn repeat(&mut self, at: usize, opened: usize) -> Result<Valued, Stop>
         requires ready { StatementAhead self.old opened at }
@@ -171,7 +171,7 @@ impl<'a> Walker<'a> {
                 let next = skip(self.table, test.next);
                 return Ok(Valued { word: 0, next });
             }
-            let _done = self.statement(test.next, opened)?;
+            self.statement(test.next, opened)?;
         }
         Err(end_at(Ending::NoFuel, at))
     }

@@ -531,19 +531,19 @@ repeat-statement-requires t c =
     (record { bindings = k.kept ∙ i.bound; names = u.names_length ∙ s.names_length; words = u.words_length ∙ s.words_length }) in
     rw (u.table, u.depth, s.table, s.depth) (omega (arith, p.within, k.ends), r)
 
-pub repeat-returns-in_err-_done-clause-ran : goal.repeat-returns-in_err-_done-clause-ran
-repeat-returns-in_err-_done-clause-ran t c =
+pub repeat-returns-in_err-statement-clause-ran : goal.repeat-returns-in_err-statement-clause-ran
+repeat-returns-in_err-statement-clause-ran t c =
     let i = c.loop-self.invariant in
     let s = i.same in
     let k = rw (s.table, s.depth) at c.in_ok-test.ensures.ran in
     let u = c.expression.ensures.same in
-    let j = rw (u.table, u.depth, s.table, s.depth) at c.in_err-_done.ensures.ran in
+    let j = rw (u.table, u.depth, s.table, s.depth) at c.in_err-statement.ensures.ran in
     let p = while-ready c.requires.ready c.in_ok-test.test.next k.ends c.requires.kind in
     let f : SFits w32 c.in_ok-test.test.word = search rules in
     let y : counter.zero c.in_ok-test.test.word ≡ false =
     sym (simp to_z-of_z at c.if-is_zero.ensures) in
     let z : c.loop-self.self.fuel ≡ suc (c.loop-self.self.fuel - 1) = omega arith in
-    passes c.from_residual-in_err-_done.ensures.1 (omega (arith, k.kept, i.bound))
+    passes c.from_residual-in_err-statement.ensures.1 (omega (arith, k.kept, i.bound))
     (omega (arith, k.fuel, i.fuel)) j
     (i.runs ∙ rw p.is (body-stops c.args.self.now.table.now c.args.self.now.depth
     c.args.opened c.args.at _ _
@@ -556,7 +556,7 @@ repeat-loop-self-preserved t c =
     let s = i.same in
     let k = rw (s.table, s.depth) at c.in_ok-test.ensures.ran in
     let u = c.expression.ensures.same in
-    let j = rw (u.table, u.depth, s.table, s.depth) at c.in_ok-_done.ensures.ran in
+    let j = rw (u.table, u.depth, s.table, s.depth) at c.in_ok-statement.ensures.ran in
     let p = while-ready c.requires.ready c.in_ok-test.test.next k.ends c.requires.kind in
     let f : SFits w32 c.in_ok-test.test.word = search rules in
     let y : counter.zero c.in_ok-test.test.word ≡ false =
