@@ -20,6 +20,7 @@ fn call_of(line: &CallLine) -> Call<'_> {
     }
 }
 
+// How the console calls it: a word of the output, and no wording of the type's own crate.
 fn name_of(line: &CallLine) -> &'static str {
     match line {
         CallLine::Load(_) => "load",
@@ -46,6 +47,7 @@ fn print_answer(rt: &HostRuntime, name: &str, answer: Result<Answer, Refusal>) -
     }
 }
 
+// As `name_of`.
 fn state_name(state: State) -> &'static str {
     match state {
         State::Empty => "empty",

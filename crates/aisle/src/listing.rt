@@ -4,6 +4,7 @@ use script::Record;
 use std::{fmt, io};
 use translator::Translation;
 
+// A word of the listing, and no wording of the crate of operations.
 fn name_of(operation: Operation) -> &'static str {
     match operation {
         Operation::Lit(_) => "LIT",

@@ -97,6 +97,7 @@ impl<'a> Walker<'a> {
     {
         let node = self.table[at];
         let count = part_count(node);
+        // a call has at most 15 arguments, and no walk allocates
         let mut given = [0; 15];
         let next = self.arguments(count, at + 1, opened, &mut given)?;
         let Some(f) = function(self.table, node.a) else {

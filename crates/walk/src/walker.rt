@@ -3,7 +3,7 @@ use racks::BayTable;
 use script::Record;
 
 // The first `bound` of the names and words are the bindings that stand, oldest first; `fuel` is left.
-// At most `depth` calls may be open at once.
+// At most `depth` calls may be open at once. Names and words lie in two slices, since two are lent and go back so.
 #[derive(Drop)]
 pub struct Walker<'a> {
     pub table: &'a [Record],
