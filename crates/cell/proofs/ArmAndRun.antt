@@ -7,7 +7,7 @@ use Rattle.script.specs.declared.refusal.Refusal.TheVariants.{FuelOrDepth, TooFe
 use Rattle.syntax.specs.Syntax.{Program, globals_of}
 use Rattle.syntax.specs.Typed.{program_of}
 use Rattle.names.specs.Need.{largest_need}
-use Rattle.names.specs.Names.{unless, ◌⨟◌}
+use Rattle.names.specs.Names.{◌⨟◌}
 use Rattle.code.specs.Scheme.{number_of, global_numbers, global_count}
 use Rattle.machine.specs.Machine.{Image, MachineState, Progress, running, undefined, step, proceed, run, armed}
 use Rattle.machine.specs.declared.outcome.Step.{Step}
@@ -21,6 +21,7 @@ use Rattle.agreement.proofs.Pieces.{never-undefined}
 use Rattle.cell.specs.Outcomes.{Shown, World, machine_in, counted, image_in, globals_told, words_wanted, words_suffice}
 use Rattle.script.specs.declared.limits.Limits.{Limits}
 use Rattle.script.specs.Limits.{within_limits}
+use Rattle.script.specs.Refusals.{unless}
 use Rattle.cell.specs.Endings.{end_of}
 use Rattle.cell.specs.Outcomes.{arms, arm_rules, armed_by, run_state, ran_to, ran_by}
 use Rattle.cell.specs.declared.calls.State.{State}

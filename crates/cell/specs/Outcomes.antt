@@ -10,13 +10,14 @@ use Rattle.script.specs.declared.limits.Limits.{Limits}
 use Rattle.syntax.specs.Syntax.{Program}
 use Rattle.syntax.specs.Typed.{program_of}
 use Rattle.names.specs.Need.{largest_need}
-use Rattle.names.specs.Names.{name_rules, unless, ◌⨟◌}
+use Rattle.names.specs.Names.{name_rules, ◌⨟◌}
 use Rattle.names.specs.Passes.{outcome as provided}
 use Rattle.code.specs.declared.instruction.Instruction.{Instruction}
 use Rattle.code.specs.declared.instruction.FunctionEntry.{FunctionEntry}
 use Rattle.code.specs.Scheme.{program_code, function_entries, global_numbers}
 use Rattle.machine.specs.declared.state.Frame.{Frame}
 use Rattle.script.specs.declared.ending.RunEnd.{RunEnd}
+use Rattle.script.specs.Refusals.{unless}
 use Rattle.machine.specs.Machine.{Image, MachineState, armed}
 use Rattle.machine.specs.Steps.{Ran, run_at_most}
 use Rattle.cell.specs.Endings.{end_of}

@@ -4,6 +4,7 @@ use Rattle.std.proofs.lemmas.List.{map-append}
 use Rattle.std.proofs.lemmas.Bool.{false≢true, eqb-true, eq-eqb, eqb-false, leb-true, le-leb}
 use Rattle.script.specs.declared.refusal.Refusal.{Refusal}
 use Rattle.script.specs.declared.refusal.Refusal.TheVariants.{DeclaredTwice, Undeclared, ArgumentCount, FrameNeed}
+use Rattle.script.specs.Refusals.{unless}
 use Rattle.syntax.specs.Syntax.{VariableDeclaration, declare, Expression, constant, variable, binary, assign, call}
 use Rattle.syntax.specs.Syntax.{bay_read, bay_write}
 use Rattle.syntax.specs.Syntax.{Arguments, no_argument, argument, Statement, evaluate, if_else, while, give_back, block}
@@ -13,7 +14,7 @@ use Rattle.syntax.specs.Syntax.{bind_names, argument_count, locate, function_nam
 use Rattle.syntax.specs.Syntax.{global_names}
 use Rattle.names.specs.declared.signature.Signature.{Signature}
 use Rattle.names.specs.Need.{largest_need}
-use Rattle.names.specs.Names.{Answer, ◌⨟◌, unless, signature, is_function, call_rule, declared, global_rules, local_rules}
+use Rattle.names.specs.Names.{Answer, ◌⨟◌, signature, is_function, call_rule, declared, global_rules, local_rules}
 use Rattle.names.specs.Names.{parameter_rules}
 use Rattle.names.specs.Names.{expression_rules, argument_rules, statement_rules, block_rules, function_rules}
 use Rattle.names.specs.Scoped.{Member, Distinct, Takes, Known, Fresh, AllFresh, ScopedExpression, ScopedArguments}

@@ -5,6 +5,7 @@ use Rattle.script.specs.declared.record.Record.{Record}
 use Rattle.script.specs.declared.refusal.Refusal.{Refusal}
 use Rattle.script.specs.declared.refusal.Refusal.TheVariants.{DeclaredTwice}
 use Rattle.script.specs.declared.rows.Sort.TheVariants.{Declaration as DeclarationSort}
+use Rattle.script.specs.Refusals.{unless}
 use Rattle.syntax.specs.Syntax.{declare, Declaration, of_a_variable, of_a_function, Function, name_of}
 use Rattle.syntax.specs.Syntax.{variables_of, functions_of, locate}
 use Rattle.syntax.specs.Trees.{tree_at, pieces, sizes}
@@ -12,7 +13,7 @@ use Rattle.syntax.specs.Typed.{declarations_of, declarations_at, make_declaratio
 use Rattle.names.specs.declared.frame.Measured.{Measured}
 use Rattle.names.specs.declared.signature.Signature.{Signature}
 use Rattle.names.specs.Need.{need_functions, need_statement}
-use Rattle.names.specs.Names.{◌⨟◌, unless, global_rules, is_function, signature}
+use Rattle.names.specs.Names.{◌⨟◌, global_rules, is_function, signature}
 use Rattle.syntax.specs.Trees.{Parts}
 use Rattle.names.specs.Passes.{outcome, checked_globals}
 use Rattle.names.proofs.Outcomes.{last, twice, went, refused}

@@ -2,7 +2,8 @@
 -- the next one counts.
 use Rattle.std.proofs.Common.{◌≡◌, Bool, true, not, Ok, Err, Result, refl}
 use Rattle.script.specs.declared.refusal.Refusal.{Refusal}
-use Rattle.names.specs.Names.{Answer, ◌⨟◌, unless}
+use Rattle.script.specs.Refusals.{unless}
+use Rattle.names.specs.Names.{Answer, ◌⨟◌}
 use Rattle.names.specs.Passes.{outcome}
 
 pub never : (e : Refusal) → ◌≡◌ {A = Answer} (Err e) (Ok tt) → ⊥

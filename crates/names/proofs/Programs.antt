@@ -5,6 +5,7 @@ use Rattle.script.specs.declared.rows.Sort.TheVariants.{Program as ProgramSort}
 use Rattle.script.specs.declared.record.Record.{Record}
 use Rattle.script.specs.declared.refusal.Refusal.{Refusal}
 use Rattle.script.specs.declared.refusal.Refusal.TheVariants.{FrameNeed}
+use Rattle.script.specs.Refusals.{unless}
 use Rattle.syntax.specs.Syntax.{Program, Declaration, name_of, variables_of, functions_of, globals_of, global_names}
 use Rattle.syntax.specs.Trees.{tree_at, no_record, Sound}
 use Rattle.syntax.specs.Typed.{statement_at, declarations_at, program_of}
@@ -13,7 +14,7 @@ use Rattle.syntax.proofs.Statements.{bound}
 use Rattle.names.specs.declared.frame.Measured.{Measured}
 use Rattle.names.specs.declared.signature.Signature.{Signature}
 use Rattle.names.specs.Need.{largest_need, need_statement, need_functions}
-use Rattle.names.specs.Names.{Answer, ◌⨟◌, unless, signature, global_rules, function_rules, statement_rules, name_rules}
+use Rattle.names.specs.Names.{Answer, ◌⨟◌, signature, global_rules, function_rules, statement_rules, name_rules}
 use Rattle.names.specs.Passes.{outcome, checked_globals}
 use Rattle.names.specs.Tables.{main_at, checked_names}
 use Rattle.names.proofs.Outcomes.{refused, regroup, went}

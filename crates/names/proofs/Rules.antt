@@ -5,6 +5,7 @@ use Rattle.script.specs.declared.refusal.Refusal.TheVariants.{Undeclared}
 use Rattle.script.specs.declared.rows.Sort.TheVariants.{Expression as ExpressionSort}
 use Rattle.script.specs.declared.rows.NodeKind.{NodeKind}
 use Rattle.script.specs.Rows.{node_of, suits}
+use Rattle.script.specs.Refusals.{unless}
 use Rattle.syntax.specs.Syntax.{Expression, constant, variable, binary, assign, call, bay_read, bay_write, Arguments}
 use Rattle.syntax.specs.Syntax.{argument_count}
 use Rattle.syntax.specs.Syntax.{Statement, evaluate, if_else, while, give_back, block, Statements}
@@ -13,7 +14,7 @@ use Rattle.syntax.proofs.NodeKinds.{row_for, by-expression}
 use Rattle.syntax.proofs.Expressions.{parts_of, Expressed}
 use Rattle.syntax.proofs.Statements.{test_of, bodies_of, NoBlock, Stated, Blocked}
 use Rattle.names.specs.declared.signature.Signature.{Signature}
-use Rattle.names.specs.Names.{Answer, ◌⨟◌, unless, declared, call_rule, expression_rules, argument_rules, statement_rules}
+use Rattle.names.specs.Names.{Answer, ◌⨟◌, declared, call_rule, expression_rules, argument_rules, statement_rules}
 use Rattle.names.specs.Names.{block_rules}
 use Rattle.names.specs.Need.{need_expression, need_arguments, need_statement, need_statements}
 use Rattle.names.specs.Passes.{record_rule}

@@ -2,6 +2,7 @@
 use Rattle.std.specs.Prelude.{ℕ, suc, Bool, true, false, cond, not, ◌||◌, List, [], ◌∷◌, ◌++◌, map, reverse, length, is_some, Ok, Err, Result, ◌==◌, nat_le}
 use Rattle.script.specs.declared.refusal.Refusal.{Refusal}
 use Rattle.script.specs.declared.refusal.Refusal.TheVariants.{DeclaredTwice, Undeclared, ArgumentCount, FrameNeed}
+use Rattle.script.specs.Refusals.{unless}
 use Rattle.syntax.specs.Syntax.{VariableDeclaration, declare, Expression, constant, variable, binary, assign, call, bay_read, bay_write}
 use Rattle.syntax.specs.Syntax.{Arguments, no_argument, argument, Statement, evaluate, if_else, while, give_back, block}
 use Rattle.syntax.specs.Syntax.{Statements, no_statement, then, Function, Declaration, of_a_variable, of_a_function, Program}
@@ -17,9 +18,6 @@ Answer = Result (Unit {0}) Refusal
 abbrev pub ◌⨟◌ : Answer → Answer → Answer
 Ok u ⨟ next = next
 Err e ⨟ next = Err e
-
-abbrev pub unless : Bool → Refusal → Answer
-unless b e = cond b (Ok tt) (Err e)
 
 abbrev pub signature : Function → Signature
 signature f = record { name = f.name; count = length f.parameters; place = f.place }

@@ -8,6 +8,7 @@ use Rattle.script.specs.declared.refusal.Refusal.{Refusal}
 use Rattle.script.specs.declared.refusal.Refusal.TheVariants.{Undeclared}
 use Rattle.script.specs.declared.rows.NodeKind.{NodeKind}
 use Rattle.script.specs.declared.rows.NodeKind.TheVariants as is
+use Rattle.script.specs.Refusals.{unless}
 use Rattle.syntax.specs.Trees.{tree_at, pieces, size, sizes}
 use Rattle.syntax.specs.Syntax.{functions_of}
 use Rattle.syntax.specs.Typed.{expression_at, arguments_at, statement_at, statements_at, variables_at, declarations_at}
@@ -16,7 +17,7 @@ use Rattle.names.specs.declared.context.Context.{Context}
 use Rattle.names.specs.declared.signature.Signature.{Signature}
 use Rattle.names.specs.declared.frame.Measured.{Measured}
 use Rattle.names.specs.Need.{need_functions}
-use Rattle.names.specs.Names.{Answer, global_rules, function_rules, unless, declared, call_rule, expression_rules}
+use Rattle.names.specs.Names.{Answer, global_rules, function_rules, declared, call_rule, expression_rules}
 use Rattle.names.specs.Names.{argument_rules, local_rules, statement_rules, block_rules}
 
 -- An answer to one who goes on with a value.

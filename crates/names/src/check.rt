@@ -7,7 +7,8 @@ ghost use Rattle.syntax.specs.Syntax.{name_of, globals_of, functions_of};
 ghost use Rattle.syntax.specs.Trees.{tree_at, Sound, Part};
 ghost use Rattle.syntax.specs.Typed.{program_of};
 ghost use Rattle.script.specs.declared.refusal.Refusal.TheVariants.{FrameNeed};
-ghost use Rattle.names.specs.Names.{unless, signature as signature_of};
+ghost use Rattle.script.specs.Refusals.{unless};
+ghost use Rattle.names.specs.Names.{signature as signature_of};
 ghost use Rattle.names.specs.Laws.{RightlyAnswered};
 ghost use Rattle.names.specs.Tables.{checked_bodies, checked_names, table_rules};
 

@@ -2,7 +2,8 @@
 ghost use Rattle.std.specs.Prelude.{◌≡◌, not, ◌==◌};
 ghost use Rattle.std.specs.Option.{option_copied};
 ghost use Rattle.script.specs.declared.refusal.Refusal.TheVariants.{Undeclared, DeclaredTwice, ArgumentCount};
-ghost use Rattle.names.specs.Names.{call_rule, is_function, unless};
+ghost use Rattle.script.specs.Refusals.{unless};
+ghost use Rattle.names.specs.Names.{call_rule, is_function};
 ghost use Rattle.names.specs.Search.{signature_named};
 ghost use Rattle.names.specs.Passes.{known};
 

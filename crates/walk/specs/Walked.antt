@@ -8,10 +8,11 @@ use Rattle.script.specs.declared.refusal.Refusal.TheVariants.{FuelOrDepth, TooFe
 use Rattle.script.specs.declared.ending.Ending.TheVariants.{Done}
 use Rattle.script.specs.declared.ending.RunEnd.{RunEnd}
 use Rattle.script.specs.Sequence.{and_then}
+use Rattle.script.specs.Refusals.{unless}
 use Rattle.syntax.specs.Syntax.{Program, globals_of}
 use Rattle.syntax.specs.Typed.{program_of}
 use Rattle.names.specs.Need.{largest_need}
-use Rattle.names.specs.Names.{Answer, ◌⨟◌, unless}
+use Rattle.names.specs.Names.{Answer, ◌⨟◌}
 use Rattle.names.specs.Tables.{table_rules}
 use Rattle.treerun.specs.TreeRun.{Outcome, value, returned, ended, run_program, unbound}
 use Rattle.treerun.specs.Laws.{state_left}
