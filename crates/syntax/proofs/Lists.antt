@@ -1,10 +1,8 @@
 -- A table whose shape is accepted is the prefix listing of its program.
-use Rattle.std.proofs.Common.{◌≡◌, ℕ, zero, suc, ◌+◌, ◌≤◌, Bool, true, false, cond, ◌&&◌, ◌||◌, T, eqb, ltb, ◌⊎◌, List, [], ◌∷◌, ◌++◌, map, length, get_or, take, replicate, ℤ, pos, negsuc, Ok, Err, Result, sym, refl, ap, ◌∙◌, subst, inl, inr, append_assoc, append-nil, arith, eqb→eq, leb→le, length-append}
+use Rattle.std.proofs.Common.{◌≡◌, ℕ, zero, suc, ◌+◌, ◌≤◌, Bool, true, false, cond, ◌&&◌, ◌||◌, T, eqb, ltb, ◌⊎◌, List, [], ◌∷◌, ◌++◌, map, length, get_or, take, replicate, ℤ, pos, negsuc, Some, None, Option, Ok, Err, Result, sym, refl, ap, ◌∙◌, subst, inl, inr, append_assoc, append-nil, arith, eqb→eq, leb→le, length-append}
 use Rattle.script.specs.declared.record.Record.{Record}
 use Rattle.script.specs.declared.refusal.Refusal.{Refusal}
 use Rattle.script.specs.declared.refusal.Refusal.TheVariants.{TableSize, FieldOutOfBounds, UnexpectedKind, LeftOver}
-use Rattle.script.specs.declared.rows.Bound.{Bound}
-use Rattle.script.specs.declared.rows.Bound.TheVariants.{Any, UpTo}
 use Rattle.script.specs.declared.rows.Row.{Row}
 use Rattle.script.specs.declared.rows.Sort.{Sort}
 use Rattle.script.specs.declared.rows.Sort.TheVariants as sort
@@ -91,31 +89,31 @@ unfolding row_of
 told-kind k = let e : 0 + k ≡ k = omega arith in rw e at (told_at rows 0 k refl)
 
 -- What a bound leaves of a field.
-abbrev clean_name : Bound → ℕ → ℕ
-clean_name Any n = n
-clean_name (UpTo zero) n = 0
-clean_name (UpTo (suc m)) n = n
+abbrev clean_name : Option ℕ → ℕ → ℕ
+clean_name None n = n
+clean_name (Some zero) n = 0
+clean_name (Some (suc m)) n = n
 
-abbrev clean_value : Bound → ℤ → ℤ
-clean_value Any x = x
-clean_value (UpTo zero) x = pos 0
-clean_value (UpTo (suc m)) x = pos (natural x)
+abbrev clean_value : Option ℕ → ℤ → ℤ
+clean_value None x = x
+clean_value (Some zero) x = pos 0
+clean_value (Some (suc m)) x = pos (natural x)
 
 tests : (b : Bool) → b ≡ true → T b
 tests true e = tt
 tests false e = absurd (let z : ◌≡◌ {A = ℕ} 0 1 = cc in omega arith)
 
-clean-name : (b : Bound) (n : ℕ) → within b (pos n) ≡ true → n ≡ clean_name b n
-clean-name Any n h = refl
-clean-name (UpTo zero) n h = let l : n ≤ 0 = leb→le n 0 (tests _ h) in omega arith
-clean-name (UpTo (suc m)) n h = refl
+clean-name : (b : Option ℕ) (n : ℕ) → within b (pos n) ≡ true → n ≡ clean_name b n
+clean-name None n h = refl
+clean-name (Some zero) n h = let l : n ≤ 0 = leb→le n 0 (tests _ h) in omega arith
+clean-name (Some (suc m)) n h = refl
 
-clean-value : (b : Bound) (x : ℤ) → within b x ≡ true → x ≡ clean_value b x
-clean-value Any x h = refl
-clean-value (UpTo zero) (pos n) h = let l : n ≤ 0 = leb→le n 0 (tests _ h) in ap pos (omega arith)
-clean-value (UpTo zero) (negsuc n) h = absurd (tests _ h)
-clean-value (UpTo (suc m)) (pos n) h = refl
-clean-value (UpTo (suc m)) (negsuc n) h = absurd (tests _ h)
+clean-value : (b : Option ℕ) (x : ℤ) → within b x ≡ true → x ≡ clean_value b x
+clean-value None x h = refl
+clean-value (Some zero) (pos n) h = let l : n ≤ 0 = leb→le n 0 (tests _ h) in ap pos (omega arith)
+clean-value (Some zero) (negsuc n) h = absurd (tests _ h)
+clean-value (Some (suc m)) (pos n) h = refl
+clean-value (Some (suc m)) (negsuc n) h = absurd (tests _ h)
 
 -- The record that the listing of a node writes, given a record of that kind.
 abbrev record_for : NodeKind → Record → Record

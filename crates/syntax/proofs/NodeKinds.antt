@@ -1,36 +1,35 @@
 -- The row of each kind of record, and the kinds that may stand where a sort is wanted.
-use Rattle.std.proofs.Common.{◌≡◌, ℕ, zero, suc, Bool, true, false, cond, T, List, [], ◌∷◌, map, get_or, Ok, Err, refl, subst, arith}
+use Rattle.std.proofs.Common.{◌≡◌, ℕ, zero, suc, Bool, true, false, cond, T, List, [], ◌∷◌, map, get_or, Some, Ok, Err, refl, subst, arith}
 use Rattle.script.specs.declared.record.Record.{Record}
 use Rattle.script.specs.declared.refusal.Refusal.TheVariants.{FieldOutOfBounds, UnexpectedKind}
 use Rattle.script.specs.declared.rows.Row.{Row}
 use Rattle.script.specs.declared.rows.Sort.{Sort}
 use Rattle.script.specs.declared.rows.Sort.TheVariants.{Expression, Statement, Variable, Function, Parameter, Program, Declaration}
-use Rattle.script.specs.declared.rows.Bound.TheVariants.{Any, UpTo}
 use Rattle.script.specs.declared.rows.Count.TheVariants.{FieldA, FieldV}
 use Rattle.script.specs.declared.rows.Operator.{Operator}
 use Rattle.script.specs.declared.rows.NodeKind.{NodeKind}
 use Rattle.script.specs.declared.rows.NodeKind.TheVariants as is
-use Rattle.script.specs.Rows.{rows, row_of, node_of, row, none, one, two, several, name, blank, unknown, suits}
+use Rattle.script.specs.Rows.{rows, row_of, node_of, row, none, one, two, several, name, blank, any, unknown, suits}
 use Rattle.script.specs.Shape.{fitting, fields}
 
 -- The row that says a kind.
 abbrev pub row_for : NodeKind → Row
-row_for is.Number = row is.Number Expression blank Any none none
+row_for is.Number = row is.Number Expression blank any none none
 row_for is.Variable = row is.Variable Expression name blank none none
 row_for (is.TwoPart o) = row (is.TwoPart o) Expression blank blank (two Expression) none
 row_for is.Assignment = row is.Assignment Expression name blank (one Expression) none
-row_for is.Call = row is.Call Expression name (UpTo 15) (several FieldV Expression) none
+row_for is.Call = row is.Call Expression name (Some 15) (several FieldV Expression) none
 row_for is.BayRead = row is.BayRead Expression blank blank (one Expression) none
 row_for is.BayWrite = row is.BayWrite Expression blank blank (two Expression) none
 row_for is.ExpressionStatement = row is.ExpressionStatement Statement blank blank (one Expression) none
 row_for is.If = row is.If Statement blank blank (one Expression) (two Statement)
 row_for is.While = row is.While Statement blank blank (one Expression) (one Statement)
 row_for is.Return = row is.Return Statement blank blank (one Expression) none
-row_for is.Block = row is.Block Statement (UpTo 63) (UpTo 1023) (several FieldA Variable) (several FieldV Statement)
-row_for is.VariableDeclaration = row is.VariableDeclaration Variable name Any none none
-row_for is.Function = row is.Function Function name (UpTo 15) (several FieldV Parameter) (one Statement)
+row_for is.Block = row is.Block Statement (Some 63) (Some 1023) (several FieldA Variable) (several FieldV Statement)
+row_for is.VariableDeclaration = row is.VariableDeclaration Variable name any none none
+row_for is.Function = row is.Function Function name (Some 15) (several FieldV Parameter) (one Statement)
 row_for is.Parameter = row is.Parameter Parameter name blank none none
-row_for is.Program = row is.Program Program (UpTo 128) blank (several FieldA Declaration) (one Statement)
+row_for is.Program = row is.Program Program (Some 128) blank (several FieldA Declaration) (one Statement)
 row_for is.Unknown = unknown
 
 abbrev own_row : Row → Row
