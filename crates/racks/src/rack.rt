@@ -62,7 +62,8 @@ pub trait Rack {
     fn read(&self, slot: usize) -> Option<Self::Word>
         ensures { result ≡ slice_get (bays self.now) slot };
 
-    // Puts a word into a bay, and changes nothing else; a refusal changes nothing at all.
+    // Puts a word into a bay, and changes nothing else; a refusal changes nothing at all. Each rack tests, then puts: a
+    // body here would need that put as a method of the trait, public and with a requires.
     fn write(&mut self, slot: usize, word: Self::Word) -> Result<(), BayFault>
         ensures answer { result ≡ write_answer (holds self.old) (bays self.old) slot word }
         ensures bays { bays self.new
