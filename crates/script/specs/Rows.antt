@@ -113,14 +113,8 @@ rank Declaration = 7
 -- May a record of the second sort stand where the first is wanted?
 -- Where a declaration is wanted, a variable declaration or a function may; else the sorts are the same.
 abbrev pub suits : Sort → Sort → Bool
-suits Unknown s = rank Unknown == rank s
-suits Expression s = rank Expression == rank s
-suits Statement s = rank Statement == rank s
-suits Variable s = rank Variable == rank s
-suits Function s = rank Function == rank s
-suits Parameter s = rank Parameter == rank s
-suits Program s = rank Program == rank s
 suits Declaration s = rank Variable == rank s || rank Function == rank s
+suits want s = rank want == rank s
 
 -- is the value of a field within its bound: any, or 0 up to the largest
 abbrev pub within : Option ℕ → ℤ → Bool

@@ -44,16 +44,7 @@ make_expression is.Assignment p r es = assign p r.a (first es)
 make_expression is.Call p r es = call p r.a es
 make_expression is.BayRead p r es = bay_read p (first es)
 make_expression is.BayWrite p r es = bay_write p (first es) (first (rest es))
-make_expression is.ExpressionStatement p r es = no_expression
-make_expression is.If p r es = no_expression
-make_expression is.While p r es = no_expression
-make_expression is.Return p r es = no_expression
-make_expression is.Block p r es = no_expression
-make_expression is.VariableDeclaration p r es = no_expression
-make_expression is.Function p r es = no_expression
-make_expression is.Parameter p r es = no_expression
-make_expression is.Program p r es = no_expression
-make_expression is.Unknown p r es = no_expression
+make_expression other p r es = no_expression
 
 abbrev mutual
   pub expression_of : Tree → Expression
@@ -80,18 +71,7 @@ make_statement is.If p r es ds ss =
 make_statement is.While p r es ds ss = while p (first es) (first_statement (drop_statements 1 ss))
 make_statement is.Return p r es ds ss = give_back p (first es)
 make_statement is.Block p r es ds ss = block p (take r.a ds) (drop_statements r.a ss)
-make_statement is.Number p r es ds ss = empty_statement
-make_statement is.Variable p r es ds ss = empty_statement
-make_statement (is.TwoPart o) p r es ds ss = empty_statement
-make_statement is.Assignment p r es ds ss = empty_statement
-make_statement is.Call p r es ds ss = empty_statement
-make_statement is.BayRead p r es ds ss = empty_statement
-make_statement is.BayWrite p r es ds ss = empty_statement
-make_statement is.VariableDeclaration p r es ds ss = empty_statement
-make_statement is.Function p r es ds ss = empty_statement
-make_statement is.Parameter p r es ds ss = empty_statement
-make_statement is.Program p r es ds ss = empty_statement
-make_statement is.Unknown p r es ds ss = empty_statement
+make_statement other p r es ds ss = empty_statement
 
 abbrev mutual
   pub statement_of : Tree → Statement
@@ -114,22 +94,7 @@ function_of (node p r ts) = record {
 -- A global declaration: a function where the record is one, else a variable.
 abbrev pub make_declaration : NodeKind → Tree → Declaration
 make_declaration is.Function t = of_a_function (function_of t)
-make_declaration is.VariableDeclaration t = of_a_variable (variable_of t)
-make_declaration is.Number t = of_a_variable (variable_of t)
-make_declaration is.Variable t = of_a_variable (variable_of t)
-make_declaration (is.TwoPart o) t = of_a_variable (variable_of t)
-make_declaration is.Assignment t = of_a_variable (variable_of t)
-make_declaration is.Call t = of_a_variable (variable_of t)
-make_declaration is.BayRead t = of_a_variable (variable_of t)
-make_declaration is.BayWrite t = of_a_variable (variable_of t)
-make_declaration is.ExpressionStatement t = of_a_variable (variable_of t)
-make_declaration is.If t = of_a_variable (variable_of t)
-make_declaration is.While t = of_a_variable (variable_of t)
-make_declaration is.Return t = of_a_variable (variable_of t)
-make_declaration is.Block t = of_a_variable (variable_of t)
-make_declaration is.Parameter t = of_a_variable (variable_of t)
-make_declaration is.Program t = of_a_variable (variable_of t)
-make_declaration is.Unknown t = of_a_variable (variable_of t)
+make_declaration other t = of_a_variable (variable_of t)
 
 abbrev pub node_kind : Tree → NodeKind
 node_kind (node p r ts) = node_of r.kind
