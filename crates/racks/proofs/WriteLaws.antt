@@ -26,14 +26,14 @@ answer-of within held = cond within (cond held (Ok tt) (Err CannotHold)) (Err No
 
 kept : {A : Type 0} (within held : Bool) (fault : BayFault) (new old : A)
     → answer-of within held ≡ Err fault → cond (within && held) new old ≡ old
-kept true true fault new old refused = let clash : ◌≡◌ {A = ℕ} 0 1 = cc in absurd (omega arith)
+kept true true fault new old refused = absurd cc
 kept true false fault new old refused = refl
 kept false held fault new old refused = refl
 
 both : (within held : Bool) → answer-of within held ≡ Ok tt → (within ≡ true) × (held ≡ true)
 both true true took = (refl, refl)
-both true false took = let clash : ◌≡◌ {A = ℕ} 0 1 = cc in absurd (omega arith)
-both false held took = let clash : ◌≡◌ {A = ℕ} 0 1 = cc in absurd (omega arith)
+both true false took = absurd cc
+both false held took = absurd cc
 
 either : {A B : Type 0} (f : A → B) (test : Bool) (new old : A) → f new ≡ f old → f (cond test new old) ≡ f old
 either f true new old same = same

@@ -1,5 +1,5 @@
 -- The row of each kind of record, and the kinds that may stand where a sort is wanted.
-use Rattle.std.proofs.Common.{◌≡◌, ℕ, zero, suc, Bool, true, false, cond, T, List, [], ◌∷◌, map, get_or, Some, Ok, Err, refl, subst, arith}
+use Rattle.std.proofs.Common.{◌≡◌, ℕ, zero, suc, Bool, true, false, cond, T, List, [], ◌∷◌, map, get_or, Some, Ok, Err, refl, subst}
 use Rattle.script.specs.declared.record.Record.{Record}
 use Rattle.script.specs.declared.refusal.Refusal.TheVariants.{FieldOutOfBounds, UnexpectedKind}
 use Rattle.script.specs.declared.rows.Row.{Row}
@@ -51,7 +51,7 @@ suited w r p q e = subst (λ (z : Row). T (suits w z.sort)) (row_is r.kind) (go 
   where
     go : (b : Bool) → cond b (cond (fields (row_of r.kind) r) (Ok (row_of r.kind)) (Err (FieldOutOfBounds p))) (Err (UnexpectedKind p)) ≡ Ok q → T b
     go true z = tt
-    go false z = absurd (let y : ◌≡◌ {A = ℕ} 0 1 = cc in omega arith)
+    go false z = absurd cc
 
 -- What holds of each kind of expression holds of every kind that suits one, and so on for the other sorts.
 pub by-expression : (P : NodeKind → Type 0) → P is.Number → P is.Variable → ((o : Operator) → P (is.TwoPart o)) →
