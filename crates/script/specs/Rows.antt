@@ -41,10 +41,11 @@ several n s = record { count = n; sort = s }
 abbrev pub none : Parts
 none = several (Fixed 0) Expression
 
--- one part, and two, of a sort
+-- one part of a sort
 abbrev pub one : Sort → Parts
 one s = several (Fixed 1) s
 
+-- two parts of a sort
 abbrev pub two : Sort → Parts
 two s = several (Fixed 2) s
 

@@ -15,12 +15,13 @@ mutual
     none : Forest
     more : Tree → Forest → Forest
 
--- The first n trees, and those after them.
+-- The first n trees, or all where there are fewer.
 abbrev pub taken : ℕ → Forest → Forest
 taken zero ts = none
 taken (suc n) none = none
 taken (suc n) (more t ts) = more t (taken n ts)
 
+-- The trees after the first n.
 abbrev pub left : ℕ → Forest → Forest
 left zero ts = ts
 left (suc n) none = none
@@ -37,11 +38,12 @@ forest at [] = none
 forest at (r ∷ rs) =
     more (node at r (taken (arity r) (forest (suc at) rs))) (left (arity r) (forest (suc at) rs))
 
--- How many records a tree has.
 abbrev mutual
+  -- How many records a tree has: its own, and those of its parts.
   pub size : Tree → ℕ
   size (node p r ts) = suc (sizes ts)
 
+  -- How many records several trees have.
   pub sizes : Forest → ℕ
   sizes none = 0
   sizes (more t ts) = size t + sizes ts
@@ -50,22 +52,25 @@ abbrev mutual
 abbrev pub no_record : Record
 no_record = record { kind = 0; a = 0; v = pos 0 }
 
+-- The first tree; where there is none, a tree of no record.
 abbrev pub head : Forest → Tree
 head none = node 0 no_record none
 head (more t ts) = t
 
--- The n trees from an index of a table on, and the tree there.
+-- The n trees from an index of a table on.
 abbrev pub pieces : List Record → ℕ → ℕ → Forest
 pieces table at n = taken n (forest at (drop at table))
 
+-- The tree at an index of a table.
 abbrev pub tree_at : List Record → ℕ → Tree
 tree_at table at = head (forest at (drop at table))
 
--- Each record of a tree fits what is wanted there, and has just its parts.
 abbrev mutual
+  -- A tree fits a sort: its record fits where the sort is wanted, and its parts fit what the record wants.
   pub Sound : Tree → Sort → Type 0
   Sound (node p r ts) w = (fitting w r p ≡ Ok (row_of r.kind)) × Sounds ts (wants (row_of r.kind) r)
 
+  -- So many trees as sorts are wanted, each of which fits its sort.
   pub Sounds : Forest → List Sort → Type 0
   Sounds none [] = Unit {0}
   Sounds none (w ∷ ws) = ⊥
