@@ -1,4 +1,5 @@
 pub mod Searches
+pub mod SoundTables
 pub mod Several
 pub mod Outcomes
 pub mod Rules

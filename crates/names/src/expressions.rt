@@ -27,10 +27,10 @@ impl Context<'_> {
     // The expression at `at`: the index after it.
     #[cycle(arguments_expression)]
     pub(crate) fn expression(&self, at: usize, scope: &[u16]) -> Result<usize, Refusal>
-        requires { Part self.now.table.now at Expression }
+        requires { Part self.now.table.records.now at Expression }
         ensures { result ≡ checked_expression self.now at scope.now }
     {
-        let node = self.table[at];
+        let node = self.table.records[at];
         self.check_record(node, at, scope)?;
         self.arguments(part_count(node), at + 1, scope)
     }
@@ -38,7 +38,7 @@ impl Context<'_> {
     // `count` expressions from `at` on: the index after them.
     #[cycle(arguments_expression)]
     fn arguments(&self, count: usize, at: usize, scope: &[u16]) -> Result<usize, Refusal>
-        requires { Parts self.now.table.now at count Expression }
+        requires { Parts self.now.table.records.now at count Expression }
         ensures { result ≡ checked_arguments self.now count at scope.now }
     {
         let mut next = at;

@@ -1,14 +1,15 @@
 // The name rules of a whole table.
 ghost use Rattle.std.specs.Prelude.{◌≡◌, ◌+◌, ◌<◌, ◌≤◌, ◌++◌, map, length, OnOk};
-ghost use Rattle.stack.specs.Store.{contents, capacity};
+ghost use Rattle.stack.specs.Store.{capacity};
 ghost use Rattle.script.specs.declared.rows.Sort.TheVariants.{Declaration};
 ghost use Rattle.syntax.specs.Syntax.{name_of, variables_of, functions_of};
 ghost use Rattle.syntax.specs.Typed.{declarations_at};
 ghost use Rattle.names.specs.Names.{signature as signature_of};
 ghost use Rattle.syntax.specs.Trees.{Parts};
-ghost use Rattle.names.specs.Passes.{checked_globals, checked_functions, Grown};
+ghost use Rattle.names.specs.Passes.{checked_globals, checked_functions};
 
 use crate::context::Context;
+use crate::declared::Declared;
 use crate::find::find;
 use crate::frame::{Measured, statement as measure};
 use crate::lookups::is_function;
@@ -18,93 +19,85 @@ use script::{Record, Refusal};
 use stack::Stack;
 use syntax::parts::{node_kind, part_count};
 
-// The global declaration at `at`: its name or its signature goes onto a stack.
-// The stacks stay two parameters: a struct of both would be made in `check_names` and taken apart there again.
-fn declaration(
-    table: &[Record],
-    at: usize,
-    globals: &mut Stack<'_, u16>,
-    functions: &mut Stack<'_, Signature>,
-) -> Result<Measured, Refusal>
-    requires parts { Parts table.now at 1 Declaration }
-    requires names { globals.old.height < capacity globals.old }
-    requires calls { functions.old.height < capacity functions.old }
-    ensures answer { result
-        ≡ checked_globals table.now 1 at (contents globals.old) (contents functions.old) }
-    ensures variables { OnOk result (contents globals.new
-        ≡ contents globals.old ++ map name_of (variables_of (declarations_at table.now at 1))) }
-    ensures signatures { OnOk result (contents functions.new
-        ≡ contents functions.old ++ map signature_of (functions_of (declarations_at table.now at 1))) }
-    ensures grown { Grown globals.old globals.new × Grown functions.old functions.new }
-{
-    let node = table[at];
-    match node_kind(node) {
-        NodeKind::Function => {
-            if is_function(functions.live(), node.a) {
-                return Err(Refusal::DeclaredTwice(at));
-            }
-            let parameters = part_count(node);
-            functions.push(Signature {
-                name: node.a,
-                count: parameters,
-                place: at,
-            });
-            let body = measure(table, at + 1 + parameters);
-            Ok(Measured {
-                words: parameters + body.words,
-                next: body.next,
-            })
-        }
-        _ => {
-            if find(globals.live(), node.a).is_some() {
-                return Err(Refusal::DeclaredTwice(at));
-            }
-            globals.push(node.a);
-            Ok(Measured {
-                words: 0,
-                next: at + 1,
-            })
-        }
-    }
-}
+impl Declared<'_> {
+    ghost use Rattle.stack.specs.Store.{contents};
+    ghost use Rattle.names.specs.Passes.{Grown, SameLenders};
 
-// `count` global declarations from `at` on: their names and signatures go onto the stacks.
-pub fn declarations(
-    table: &[Record],
-    count: usize,
-    at: usize,
-    globals: &mut Stack<'_, u16>,
-    functions: &mut Stack<'_, Signature>,
-) -> Result<Measured, Refusal>
-    requires parts { Parts table.now at count Declaration }
-    requires names { globals.old.height + count ≤ capacity globals.old }
-    requires calls { functions.old.height + count ≤ capacity functions.old }
-    ensures answer { result
-        ≡ checked_globals table.now count at (contents globals.old)
-        (contents functions.old) }
-    ensures variables { OnOk result (contents globals.new
-        ≡ contents globals.old ++ map name_of (variables_of (declarations_at table.now at count))) }
-    ensures signatures { OnOk result (contents functions.new
-        ≡ contents functions.old ++ map signature_of (functions_of (declarations_at table.now at count))) }
-    ensures lenders { (globals.new.words.ghost_name ≡ globals.old.words.ghost_name) × (functions.new.words.ghost_name ≡ functions.old.words.ghost_name) }
-{
-    let mut found = Measured { words: 0, next: at };
-    for _ in 0..count {
-        let first = declaration(table, found.next, globals, functions)?;
-        found = first.at_least(found.words);
+    // The global declaration at `at`: its name or its signature goes onto a stack.
+    fn declaration(&mut self, table: &[Record], at: usize) -> Result<Measured, Refusal>
+        requires parts { Parts table.now at 1 Declaration }
+        requires names { self.old.globals.height < capacity self.old.globals }
+        requires calls { self.old.functions.height < capacity self.old.functions }
+        ensures answer { result
+            ≡ checked_globals table.now 1 at (contents self.old.globals) (contents self.old.functions) }
+        ensures variables { OnOk result (contents self.new.globals
+            ≡ contents self.old.globals ++ map name_of (variables_of (declarations_at table.now at 1))) }
+        ensures signatures { OnOk result (contents self.new.functions
+            ≡ contents self.old.functions ++ map signature_of (functions_of (declarations_at table.now at 1))) }
+        ensures grown { Grown self.old.globals self.new.globals × Grown self.old.functions self.new.functions }
+    {
+        let node = table[at];
+        match node_kind(node) {
+            NodeKind::Function => {
+                if is_function(self.functions.live(), node.a) {
+                    return Err(Refusal::DeclaredTwice(at));
+                }
+                let parameters = part_count(node);
+                self.functions.push(Signature {
+                    name: node.a,
+                    count: parameters,
+                    place: at,
+                });
+                let body = measure(table, at + 1 + parameters);
+                Ok(Measured {
+                    words: parameters + body.words,
+                    next: body.next,
+                })
+            }
+            _ => {
+                if find(self.globals.live(), node.a).is_some() {
+                    return Err(Refusal::DeclaredTwice(at));
+                }
+                self.globals.push(node.a);
+                Ok(Measured {
+                    words: 0,
+                    next: at + 1,
+                })
+            }
+        }
     }
-    Ok(found)
+
+    // `count` global declarations from `at` on: their names and signatures go onto the stacks.
+    pub(crate) fn declarations(&mut self, table: &[Record], count: usize, at: usize) -> Result<Measured, Refusal>
+        requires parts { Parts table.now at count Declaration }
+        requires names { self.old.globals.height + count ≤ capacity self.old.globals }
+        requires calls { self.old.functions.height + count ≤ capacity self.old.functions }
+        ensures answer { result
+            ≡ checked_globals table.now count at (contents self.old.globals) (contents self.old.functions) }
+        ensures variables { OnOk result (contents self.new.globals
+            ≡ contents self.old.globals ++ map name_of (variables_of (declarations_at table.now at count))) }
+        ensures signatures { OnOk result (contents self.new.functions
+            ≡ contents self.old.functions ++ map signature_of (functions_of (declarations_at table.now at count))) }
+        ensures lenders { SameLenders self.old self.new }
+    {
+        let mut found = Measured { words: 0, next: at };
+        for _ in 0..count {
+            let first = self.declaration(table, found.next)?;
+            found = first.at_least(found.words);
+        }
+        Ok(found)
+    }
 }
 
 impl Context<'_> {
     // Parameters and body of the function that is declared at `at`, if one is: the index after the declaration.
     // The names in scope lie in `names`.
     fn body(&self, at: usize, names: &mut [u16]) -> Result<usize, Refusal>
-        requires parts { Parts self.now.table.now at 1 Declaration }
-        requires room { length self.now.table.now ≤ length names.old }
+        requires parts { Parts self.now.table.records.now at 1 Declaration }
+        requires room { length self.now.table.records.now ≤ length names.old }
         ensures { result ≡ checked_functions self.now 1 at }
     {
-        let node = self.table[at];
+        let node = self.table.records[at];
         match node_kind(node) {
             NodeKind::Function => {
                 let mut scope = Stack::new(names, 0);
@@ -122,8 +115,8 @@ impl Context<'_> {
         at: usize,
         names: &mut [u16],
     ) -> Result<usize, Refusal>
-        requires parts { Parts self.now.table.now at count Declaration }
-        requires room { length self.now.table.now ≤ length names.old }
+        requires parts { Parts self.now.table.records.now at count Declaration }
+        requires room { length self.now.table.records.now ≤ length names.old }
         ensures { result ≡ checked_functions self.now count at }
     {
         let mut next = at;

@@ -31,19 +31,19 @@ impl Context<'_> {
         at: usize,
         scope: &mut Stack<'_, u16>,
     ) -> Result<usize, Refusal>
-        requires within { at + count ≤ length self.now.table.now }
-        requires sound { Leaves count (pieces self.now.table.now at count) }
+        requires within { at + count ≤ length self.now.table.records.now }
+        requires sound { Leaves count (pieces self.now.table.records.now at count) }
         requires room { scope.old.height + count ≤ capacity scope.old }
         ensures answer { result ≡ checked_locals self.now count at (contents scope.old) }
         ensures bound { IfOk result
             (λ _. contents scope.new
-            ≡ contents scope.old ++ map name_of (variables_at self.now.table.now at count)) }
+            ≡ contents scope.old ++ map name_of (variables_at self.now.table.records.now at count)) }
         ensures height { OnOk result (scope.new.height ≡ scope.old.height + count) }
         ensures store { capacity scope.new ≡ capacity scope.old }
     {
         let end = at + count;
         for place in at..end {
-            let name = self.table[place].a;
+            let name = self.table.records[place].a;
             self.check_new(name, place, scope.live())?;
             scope.push(name);
         }
@@ -53,12 +53,12 @@ impl Context<'_> {
     // The statement at `at`: the index after it. A block's locals are in scope up to its end.
     #[cycle(statement_statements)]
     pub(crate) fn statement(&self, at: usize, scope: &mut Stack<'_, u16>) -> Result<usize, Refusal>
-        requires part { Part self.now.table.now at Statement }
-        requires room { scope.old.height + length self.now.table.now ≤ capacity scope.old + at }
+        requires part { Part self.now.table.records.now at Statement }
+        requires room { scope.old.height + length self.now.table.records.now ≤ capacity scope.old + at }
         ensures answer { result ≡ checked_statement self.now at (contents scope.old) }
         ensures scope { Kept result scope.old scope.new }
     {
-        let node = self.table[at];
+        let node = self.table.records[at];
         let count = statement_count(node);
         match node_kind(node) {
             NodeKind::Block => {
@@ -83,8 +83,8 @@ impl Context<'_> {
         at: usize,
         scope: &mut Stack<'_, u16>,
     ) -> Result<usize, Refusal>
-        requires parts { Parts self.now.table.now at count Statement }
-        requires room { scope.old.height + length self.now.table.now ≤ capacity scope.old + at }
+        requires parts { Parts self.now.table.records.now at count Statement }
+        requires room { scope.old.height + length self.now.table.records.now ≤ capacity scope.old + at }
         ensures answer { result ≡ checked_statements self.now count at (contents scope.old) }
         ensures scope { Kept result scope.old scope.new }
     {

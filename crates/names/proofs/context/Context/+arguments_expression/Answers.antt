@@ -10,11 +10,11 @@ use Rattle.names.proofs.context.Context.+arguments_expression.Goals.{arguments-I
 
 -- The first of the arguments that are left, and those from m on.
 several : (t : ℕ) (c : arguments-In-loop t) (m : ℕ) →
-    m ≡ c.loop.next + size (tree_at c.args.self.now.table.now c.loop.next) →
-    Firsts c.args.self.now.table.now c.loop.next (c.args.count - c.loop.counter) m Expression
+    m ≡ c.loop.next + size (tree_at c.args.self.now.table.records.now c.loop.next) →
+    Firsts c.args.self.now.table.records.now c.loop.next (c.args.count - c.loop.counter) m Expression
 several t c m e =
     let k : 0 < c.args.count - c.loop.counter = omega arith in
-    firsts c.args.self.now.table.now c.loop.next _ m _ k c.loop.invariant.parts.sound e
+    firsts c.args.self.now.table.records.now c.loop.next _ m _ k c.loop.invariant.parts.sound e
 
 pub arguments-expression-requires : goal.arguments-expression-requires
 arguments-expression-requires t c =
@@ -40,20 +40,20 @@ arguments-loop-preserved t c =
 
 pub expression-returns-in_err-check_record : goal.expression-returns-in_err-check_record
 expression-returns-in_err-check_record t c =
-    let p = expressed c.args.self.now.table.now c.args.at _ no_record c.requires.within c.requires.sound refl in
+    let p = expressed c.args.self.now.table.records.now c.args.at _ no_record c.requires.within c.requires.sound refl in
     let q = err_from_is_err_and c.from_residual.result c.from_residual.ensures.1 in
     rw (q.1, q.2, expression-rules _ _ _ _ _ _ _ refl p)
     (refused-own _ _ _ _ c.in_err-check_record.ensures)
 
 pub expression-arguments-requires : goal.expression-arguments-requires
 expression-arguments-requires t c =
-    let p = expressed c.args.self.now.table.now c.args.at _ no_record c.requires.within c.requires.sound
+    let p = expressed c.args.self.now.table.records.now c.args.at _ no_record c.requires.within c.requires.sound
     c.part_count.ensures in
     (omega arith, record { within = p.within; sound = p.sound })
 
 pub expression-returns : goal.expression-returns
 expression-returns t c =
-    let p = expressed c.args.self.now.table.now c.args.at _ no_record c.requires.within c.requires.sound
+    let p = expressed c.args.self.now.table.records.now c.args.at _ no_record c.requires.within c.requires.sound
     c.part_count.ensures in
     rw (expression-rules _ _ _ _ _ _ _ c.part_count.ensures p)
     (on _ _ _ _ _ (sym c.in_ok-check_record.ensures) (omega (arith, p.whole)) c.arguments.ensures)

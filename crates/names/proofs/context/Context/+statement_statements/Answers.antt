@@ -15,37 +15,37 @@ use Rattle.names.proofs.context.Context.+statement_statements.Goals.{statement-I
 
 -- A block past its locals, another statement past its expression, the first of the statements that are left.
 block : (t : ℕ) (c : statement-In_ok-first-in-Block t) →
-    Blocked c.args.self.now.table.now c.args.at (get_or c.args.self.now.table.now c.args.at no_record).a
+    Blocked c.args.self.now.table.records.now c.args.at (get_or c.args.self.now.table.records.now c.args.at no_record).a
     c.statement_count-count.result c.in_ok-first-in-Block.first
 block t c =
     let w = went _ _ _ c.in_ok-first-in-Block.ensures.answer in
-    blocked c.args.self.now.table.now c.args.at _ _ c.in_ok-first-in-Block.first no_record c.requires.part.within
+    blocked c.args.self.now.table.records.now c.args.at _ _ c.in_ok-first-in-Block.first no_record c.requires.part.within
     c.requires.part.sound (sym c.in-Block.ensures) refl c.statement_count-count.ensures w.1
 
 plain : (t : ℕ) (c : statement-In_ok-next-in_default t) →
-    Stated c.args.self.now.table.now c.args.at c.statement_count-count.result c.in_ok-next-in_default.next
-    (get_or c.args.self.now.table.now c.args.at no_record)
+    Stated c.args.self.now.table.records.now c.args.at c.statement_count-count.result c.in_ok-next-in_default.next
+    (get_or c.args.self.now.table.records.now c.args.at no_record)
 plain t c =
     let w = went _ _ _ c.in_ok-next-in_default.ensures in
-    stated c.args.self.now.table.now c.args.at _ c.in_ok-next-in_default.next no_record c.requires.part.within
+    stated c.args.self.now.table.records.now c.args.at _ c.in_ok-next-in_default.next no_record c.requires.part.within
     c.requires.part.sound (λ e. c.in_default.not-Block (c.node_kind.ensures ∙ e)) c.statement_count-count.ensures w.1
 
 several : (t : ℕ) (c : statements-In-loop t) (m : ℕ) →
-    m ≡ c.loop.next + size (tree_at c.args.self.now.table.now c.loop.next) →
-    Firsts c.args.self.now.table.now c.loop.next (c.args.count - c.loop.counter) m Statement
+    m ≡ c.loop.next + size (tree_at c.args.self.now.table.records.now c.loop.next) →
+    Firsts c.args.self.now.table.records.now c.loop.next (c.args.count - c.loop.counter) m Statement
 several t c m e =
     let k : 0 < c.args.count - c.loop.counter = omega arith in
-    firsts c.args.self.now.table.now c.loop.next _ m _ k c.loop.invariant.parts.sound e
+    firsts c.args.self.now.table.records.now c.loop.next _ m _ k c.loop.invariant.parts.sound e
 
 pub statement-locals-requires : goal.statement-locals-requires
 statement-locals-requires t c =
-    let p = blocked c.args.self.now.table.now c.args.at _ _ _ no_record c.requires.part.within c.requires.part.sound
+    let p = blocked c.args.self.now.table.records.now c.args.at _ _ _ no_record c.requires.part.within c.requires.part.sound
     (sym c.in-Block.ensures) refl refl refl in
     record { within = p.within; sound = p.locals; room = omega (arith, p.within) }
 
 pub statement-returns-in_err-first-in-Block-clause-answer : goal.statement-returns-in_err-first-in-Block-clause-answer
 statement-returns-in_err-first-in-Block-clause-answer t c =
-    let p = blocked c.args.self.now.table.now c.args.at _ _ _ no_record c.requires.part.within c.requires.part.sound
+    let p = blocked c.args.self.now.table.records.now c.args.at _ _ _ no_record c.requires.part.within c.requires.part.sound
     (sym c.in-Block.ensures) refl refl refl in
     let q = err_from_is_err_and c.from_residual.result c.from_residual.ensures.1 in
     rw (q.1, q.2)
@@ -73,13 +73,13 @@ statement-returns-in_err-next-in-Block-clause-answer t c =
 
 pub statement-expression-requires : goal.statement-expression-requires
 statement-expression-requires t c =
-    let p = stated c.args.self.now.table.now c.args.at _ _ no_record c.requires.part.within c.requires.part.sound
+    let p = stated c.args.self.now.table.records.now c.args.at _ _ no_record c.requires.part.within c.requires.part.sound
     (λ e. c.in_default.not-Block (c.node_kind.ensures ∙ e)) refl refl in
     record { within = p.within; sound = p.test_sound }
 
 pub statement-returns-in_err-next-in_default-clause-answer : goal.statement-returns-in_err-next-in_default-clause-answer
 statement-returns-in_err-next-in_default-clause-answer t c =
-    let p = stated c.args.self.now.table.now c.args.at _ _ no_record c.requires.part.within c.requires.part.sound
+    let p = stated c.args.self.now.table.records.now c.args.at _ _ no_record c.requires.part.within c.requires.part.sound
     (λ e. c.in_default.not-Block (c.node_kind.ensures ∙ e)) refl refl in
     let q = err_from_is_err_and c.from_residual-in_err-next-in_default.result
     c.from_residual-in_err-next-in_default.ensures.1 in

@@ -20,7 +20,7 @@ loop-preserved c =
     let left : ℕ = c.args.count - c.loop.counter in
     let k : 0 < left = omega arith in
     let w = went _ _ _ c.in_ok-next.ensures in
-    let p = first c.args.self.now.table.now c.loop.next left c.in_ok-next.next Declaration k c.loop.invariant.parts w.1 in
+    let p = first c.args.self.now.table.records.now c.loop.next left c.in_ok-next.next Declaration k c.loop.invariant.parts w.1 in
     let e : left - 1 ≡ c.args.count - (c.loop.counter + 1) = omega arith in
     rw (← e) record {
       parts = p.others;

@@ -13,24 +13,24 @@ use Rattle.names.proofs.context.Context.body.Goals.{After-part_count, In_ok-body
 
 pub bounds-self-at : goal.bounds-self-at
 bounds-self-at c =
-    (firsts c.args.self.now.table.now c.args.at 1 _ _ (lit< tt) c.requires.parts.sound refl).within
+    (firsts c.args.self.now.table.records.now c.args.at 1 _ _ (lit< tt) c.requires.parts.sound refl).within
 
 -- A function, and a function past its parameters.
 function : (c : After-part_count) →
     let m = c.args.at + 1 + c.part_count.result in
-    FirstFunction c.args.self.now.table.now c.args.at 1 c.part_count.result m (m + size (tree_at c.args.self.now.table.now m))
-    (get_or c.args.self.now.table.now c.args.at no_record)
+    FirstFunction c.args.self.now.table.records.now c.args.at 1 c.part_count.result m (m + size (tree_at c.args.self.now.table.records.now m))
+    (get_or c.args.self.now.table.records.now c.args.at no_record)
 function c =
-    first_function c.args.self.now.table.now c.args.at 1 c.part_count.result _ _ no_record (lit< tt) c.requires.parts.sound
+    first_function c.args.self.now.table.records.now c.args.at 1 c.part_count.result _ _ no_record (lit< tt) c.requires.parts.sound
     (sym c.in-Function.ensures) c.part_count.ensures refl refl
 
 function-past : (c : In_ok-body-in-Function) →
     let m = c.in_ok-body-in-Function.body in
-    FirstFunction c.args.self.now.table.now c.args.at 1 c.part_count.result m (m + size (tree_at c.args.self.now.table.now m))
-    (get_or c.args.self.now.table.now c.args.at no_record)
+    FirstFunction c.args.self.now.table.records.now c.args.at 1 c.part_count.result m (m + size (tree_at c.args.self.now.table.records.now m))
+    (get_or c.args.self.now.table.records.now c.args.at no_record)
 function-past c =
     let w = went _ _ _ c.in_ok-body-in-Function.ensures.answer in
-    first_function c.args.self.now.table.now c.args.at 1 c.part_count.result _ _ no_record (lit< tt) c.requires.parts.sound
+    first_function c.args.self.now.table.records.now c.args.at 1 c.part_count.result _ _ no_record (lit< tt) c.requires.parts.sound
     (sym c.in-Function.ensures) c.part_count.ensures w.1 refl
 
 pub locals-requires : goal.locals-requires
@@ -64,7 +64,7 @@ returns-in_ok-body-in-Function c =
 
 pub returns-in_default : goal.returns-in_default
 returns-in_default c =
-    let table = c.args.self.now.table.now in
+    let table = c.args.self.now.table.records.now in
     let p = first-variable table c.args.at 1 no_record (lit< tt) c.requires.parts.sound
     (λ e. c.in_default.not-Function (c.node_kind.ensures ∙ e)) in
     variable-answered (reverse c.args.self.now.globals.now) c.args.self.now.functions.now

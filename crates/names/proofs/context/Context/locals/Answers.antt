@@ -11,7 +11,7 @@ pub returns-in_err-check_new-clause-answer : goal.returns-in_err-check_new-claus
 returns-in_err-check_new-clause-answer c =
     let left : ℕ = c.args.at + c.args.count - c.loop-place.place in
     let k : 0 < left = omega arith in
-    let p = declared-first c.args.self.now.table.now c.loop-place.place left no_record k c.loop-place.invariant.sound in
+    let p = declared-first c.args.self.now.table.records.now c.loop-place.place left no_record k c.loop-place.invariant.sound in
     let q = err_from_is_err_and c.from_residual.result c.from_residual.ensures.1 in
     rw (q.1, q.2)
     (local-again _ _ _ _ _ _ _ _ p.is c.live.ensures _ _ c.in_err-check_new.ensures ∙ c.loop-place.invariant.answer)
@@ -20,7 +20,7 @@ pub loop-place-preserved : goal.loop-place-preserved
 loop-place-preserved c =
     let left : ℕ = c.args.at + c.args.count - c.loop-place.place in
     let k : 0 < left = omega arith in
-    let p = declared-first c.args.self.now.table.now c.loop-place.place left no_record k c.loop-place.invariant.sound in
+    let p = declared-first c.args.self.now.table.records.now c.loop-place.place left no_record k c.loop-place.invariant.sound in
     let room : c.loop-place.scope.height < capacity c.loop-place.scope = omega (arith, c.loop-place.invariant.height, c.loop-place.invariant.store) in
     let h = height-pushed c.loop-place.scope c.push.new.self _ room c.push.ensures.words c.push.ensures.height in
     let s = capacity-pushed c.loop-place.scope c.push.new.self _ room c.push.ensures.words c.push.ensures.height in

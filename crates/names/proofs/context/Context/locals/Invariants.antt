@@ -10,7 +10,7 @@ use Rattle.names.proofs.context.Context.locals.Given as goal
 -- The locals on the stack and those that are left are all, and those that are left decide as all do.
 abbrev pub invariant-loop-place : goal.invariant-loop-place
 invariant-loop-place l =
-    let table = l.self.table.now in
+    let table = l.self.table.records.now in
     let left = l.end - l.place in
     record {
       sound : Leaves left (pieces table l.place left);

@@ -8,8 +8,8 @@ use Rattle.syntax.proofs.Expressions.{firsts}
 use Rattle.syntax.proofs.Declarations.{FirstFunction, first_function, first-variable}
 use Rattle.names.proofs.Globals.{function-again, function-new, function-signed, no-variable}
 use Rattle.names.proofs.Globals.{variable-again, variable-new, variable-named, no-function}
-use Rattle.names.proofs.program.declaration.Goals as goal
-use Rattle.names.proofs.program.declaration.Goals.{After-statement-body}
+use Rattle.names.proofs.declared.Declared.declaration.Goals as goal
+use Rattle.names.proofs.declared.Declared.declaration.Goals.{After-statement-body}
 
 pub bounds-table-at : goal.bounds-table-at
 bounds-table-at c = (firsts c.args.table.now c.args.at 1 _ _ (lit< tt) c.requires.parts.sound refl).within
@@ -18,7 +18,7 @@ pub returns-then-is_function-clause-answer : goal.returns-then-is_function-claus
 returns-then-is_function-clause-answer c =
     let p = first_function c.args.table.now c.args.at 1 _ _ _ no_record (lit< tt) c.requires.parts.sound
     (sym c.in-Function.ensures) refl refl refl in
-    function-again _ _ (reverse (contents c.args.globals.now)) _ _ p.is c.live.ensures _ c.if-is_function.ensures
+    function-again _ _ (reverse (contents c.args.self.now.globals)) _ _ p.is c.live.ensures _ c.if-is_function.ensures
 
 pub overflow_add-at-in-Function : goal.overflow_add-at-in-Function
 overflow_add-at-in-Function c =
@@ -45,19 +45,19 @@ function c =
 pub returns-else-is_function-clause-answer : goal.returns-else-is_function-clause-answer
 returns-else-is_function-clause-answer c =
     let p = function (goal.at.returns-else-is_function-clause-answer c).After-statement-body in
-    function-new _ _ (reverse (contents c.args.globals.now)) (contents c.args.functions.now) _ p.is c.live.ensures _ _ _ _
+    function-new _ _ (reverse (contents c.args.self.now.globals)) (contents c.args.self.now.functions) _ p.is c.live.ensures _ _ _ _
     c.if-is_function.ensures p.function.many c.statement-body.ensures.words (omega (arith, p.whole))
 
 pub returns-else-is_function-clause-variables : goal.returns-else-is_function-clause-variables
 returns-else-is_function-clause-variables c =
     let p = function (goal.at.returns-else-is_function-clause-variables c).After-statement-body in
-    no-variable _ _ (reverse (contents c.args.globals.now)) (contents c.args.functions.now) _ p.is c.live.ensures _
+    no-variable _ _ (reverse (contents c.args.self.now.globals)) (contents c.args.self.now.functions) _ p.is c.live.ensures _
 
 pub returns-else-is_function-clause-signatures : goal.returns-else-is_function-clause-signatures
 returns-else-is_function-clause-signatures c =
     let p = function (goal.at.returns-else-is_function-clause-signatures c).After-statement-body in
-    function-signed _ _ (reverse (contents c.args.globals.now)) (contents c.args.functions.now) _ p.is c.live.ensures _ _
-    (contents-pushed c.args.functions.now c.push.new.self _ c.requires.calls c.push.ensures.words c.push.ensures.height)
+    function-signed _ _ (reverse (contents c.args.self.now.globals)) (contents c.args.self.now.functions) _ p.is c.live.ensures _ _
+    (contents-pushed c.args.self.now.functions c.push.new.self _ c.requires.calls c.push.ensures.words c.push.ensures.height)
     p.function.many
 
 pub returns-then-is_some-clause-answer : goal.returns-then-is_some-clause-answer
@@ -66,7 +66,7 @@ returns-then-is_some-clause-answer c =
     let p = first-variable table c.args.at 1 no_record (lit< tt) c.requires.parts.sound
     (λ e. c.in_default.not-Function (c.node_kind.ensures ∙ e)) in
     let r : Record = get_or table c.args.at no_record in
-    variable-again (declarations_at table c.args.at 1) c.args.at r.a r.v _ _ (contents c.args.functions.now) p.is
+    variable-again (declarations_at table c.args.at 1) c.args.at r.a r.v _ _ (contents c.args.self.now.functions) p.is
     c.live-in_default.ensures c.find.result c.find.ensures.place _ c.if-is_some.ensures
 
 pub returns-else-is_some-clause-answer : goal.returns-else-is_some-clause-answer
@@ -75,8 +75,8 @@ returns-else-is_some-clause-answer c =
     let p = first-variable table c.args.at 1 no_record (lit< tt) c.requires.parts.sound
     (λ e. c.in_default.not-Function (c.node_kind.ensures ∙ e)) in
     let r : Record = get_or table c.args.at no_record in
-    variable-new (declarations_at table c.args.at 1) c.args.at r.a r.v (contents c.args.globals.now) _
-    (contents c.args.functions.now) p.is c.live-in_default.ensures c.find.result c.find.ensures.place
+    variable-new (declarations_at table c.args.at 1) c.args.at r.a r.v (contents c.args.self.now.globals) _
+    (contents c.args.self.now.functions) p.is c.live-in_default.ensures c.find.result c.find.ensures.place
     (c.args.at + 1) _ c.if-is_some.ensures (omega (arith, p.whole))
 
 pub returns-else-is_some-clause-variables : goal.returns-else-is_some-clause-variables
@@ -85,9 +85,9 @@ returns-else-is_some-clause-variables c =
     let p = first-variable table c.args.at 1 no_record (lit< tt) c.requires.parts.sound
     (λ e. c.in_default.not-Function (c.node_kind.ensures ∙ e)) in
     let r : Record = get_or table c.args.at no_record in
-    variable-named (declarations_at table c.args.at 1) c.args.at r.a r.v (contents c.args.globals.now) _
-    (contents c.args.functions.now) p.is c.live-in_default.ensures c.find.result c.find.ensures.place _
-    (contents-pushed c.args.globals.now c.push-in_default.new.self _ c.requires.names c.push-in_default.ensures.words
+    variable-named (declarations_at table c.args.at 1) c.args.at r.a r.v (contents c.args.self.now.globals) _
+    (contents c.args.self.now.functions) p.is c.live-in_default.ensures c.find.result c.find.ensures.place _
+    (contents-pushed c.args.self.now.globals c.push-in_default.new.self _ c.requires.names c.push-in_default.ensures.words
     c.push-in_default.ensures.height)
 
 pub returns-else-is_some-clause-signatures : goal.returns-else-is_some-clause-signatures
@@ -96,5 +96,5 @@ returns-else-is_some-clause-signatures c =
     let p = first-variable table c.args.at 1 no_record (lit< tt) c.requires.parts.sound
     (λ e. c.in_default.not-Function (c.node_kind.ensures ∙ e)) in
     let r : Record = get_or table c.args.at no_record in
-    no-function (declarations_at table c.args.at 1) c.args.at r.a r.v (contents c.args.globals.now) _
-    (contents c.args.functions.now) p.is c.live-in_default.ensures c.find.result c.find.ensures.place
+    no-function (declarations_at table c.args.at 1) c.args.at r.a r.v (contents c.args.self.now.globals) _
+    (contents c.args.self.now.functions) p.is c.live-in_default.ensures c.find.result c.find.ensures.place

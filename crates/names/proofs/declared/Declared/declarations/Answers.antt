@@ -9,7 +9,7 @@ use Rattle.names.specs.declared.signature.Signature.{Signature}
 use Rattle.names.proofs.Globals.{globals-refused, globals-done, variables-done, signatures-done}
 use Rattle.names.proofs.Outcomes.{went}
 use Rattle.names.proofs.Several.{first}
-use Rattle.names.proofs.program.declarations.Goals as goal
+use Rattle.names.proofs.declared.Declared.declarations.Goals as goal
 
 pub returns-in_err-first-clause-answer : goal.returns-in_err-first-clause-answer
 returns-in_err-first-clause-answer c =
@@ -17,8 +17,8 @@ returns-in_err-first-clause-answer c =
     let k : 0 < left = omega arith in
     let q = err_from_is_err_and c.from_residual.result c.from_residual.ensures.1 in
     rw (q.1, q.2)
-    (globals-refused c.args.table.now c.loop.found left k c.loop.invariant.parts (contents c.loop.globals)
-    (contents c.loop.functions) _ c.in_err-first.ensures.answer
+    (globals-refused c.args.table.now c.loop.found left k c.loop.invariant.parts (contents c.loop.self.globals)
+    (contents c.loop.self.functions) _ c.in_err-first.ensures.answer
     ∙ c.loop.invariant.answer)
 
 pub loop-preserved : goal.loop-preserved
@@ -28,8 +28,8 @@ loop-preserved c =
     let i = c.loop.invariant in
     let d = c.in_ok-first.ensures in
     let table : List Record = c.args.table.now in
-    let names : List ℕ = contents c.loop.globals in
-    let functions : List Signature = contents c.loop.functions in
+    let names : List ℕ = contents c.loop.self.globals in
+    let functions : List Signature = contents c.loop.self.functions in
     let w = went _ _ _ d.answer in
     let m : c.at_least-found.result.next ≡ c.loop.found.next + sizes (pieces table c.loop.found.next 1) =
     c.at_least-found.ensures.next ∙ ap (λ (x : Measured). x.next) w.1 in
