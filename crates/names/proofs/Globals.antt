@@ -1,5 +1,5 @@
 -- The rules of the global declarations, one declaration after another.
-use Rattle.std.proofs.Common.{◌≡◌, ℕ, ◌+◌, ◌-◌, ◌<◌, max, true, false, not, List, [], ◌∷◌, ◌++◌, map, reverse, length, ℤ, is_some, Ok, Err, Option, Result, sym, refl, ap, ◌∙◌, append_assoc, append-nil, arith}
+use Rattle.std.proofs.Common.{◌≡◌, ℕ, ◌+◌, ◌-◌, ◌<◌, max, Bool, not, List, [], ◌∷◌, ◌++◌, map, reverse, length, ℤ, is_some, Ok, Err, Option, Result, sym, refl, ap, ◌∙◌, append_assoc, append-nil, arith}
 use Rattle.std.proofs.lemmas.List.{reverse-append}
 use Rattle.script.specs.declared.record.Record.{Record}
 use Rattle.script.specs.declared.refusal.Refusal.{Refusal}
@@ -16,7 +16,7 @@ use Rattle.names.specs.Need.{need_functions, need_statement}
 use Rattle.names.specs.Names.{◌⨟◌, global_rules, is_function, signature}
 use Rattle.syntax.specs.Trees.{Parts}
 use Rattle.names.specs.Passes.{outcome, checked_globals}
-use Rattle.names.proofs.Outcomes.{last, twice, went, refused}
+use Rattle.names.proofs.Outcomes.{last, went, refused, refused-own}
 use Rattle.names.proofs.Several.{first}
 
 abbrev measured : ℕ → ℕ → Measured
@@ -25,21 +25,22 @@ measured w n = record { words = w; next = n }
 measured-is : (x : Measured) (w n : ℕ) → x.words ≡ w → x.next ≡ n → x ≡ measured w n
 measured-is x w n p q = rw (← p, ← q) refl
 
--- A function alone: `seen` are the signatures that the search went through.
+-- A function alone: `known` is what the search for its name gave, through the signatures `seen`.
 module _ (ds : List Declaration) (f : Function) (variables : List ℕ) (functions seen : List Signature)
-    (only : ds ≡ of_a_function f ∷ []) (same : seen ≡ functions) where
-  pub function-again : (m : Measured) → true ≡ is_function f.name seen →
-      Err (DeclaredTwice f.place) ≡ outcome (global_rules ds variables functions) m
-  function-again m p =
-      rw (only, ← same) (twice (is_function f.name seen) (DeclaredTwice f.place) (Ok tt) m (sym p))
+    (only : ds ≡ of_a_function f ∷ []) (same : seen ≡ functions) (known : Bool) (sought : known ≡ is_function f.name seen) where
+  known-is : known ≡ is_function f.name functions
+  known-is = sought ∙ ap (is_function f.name) same
 
-  pub function-new : (n w e b : ℕ) → false ≡ is_function f.name seen → length f.parameters ≡ n →
+  pub function-again : (m : Measured) (y : Refusal) → Err y ≡ unless (not known) (DeclaredTwice f.place) →
+      Err y ≡ outcome (global_rules ds variables functions) m
+  function-again m y p = rw (only, ← known-is) (refused-own (unless (not known) (DeclaredTwice f.place)) (Ok tt) m y p)
+
+  pub function-new : (n w e b : ℕ) → Ok tt ≡ unless (not known) (DeclaredTwice f.place) → length f.parameters ≡ n →
       w ≡ need_statement f.body → e ≡ b →
       Ok (measured (n + w) e)
       ≡ outcome (global_rules ds variables functions) (measured (need_functions (functions_of ds)) b)
   function-new n w e b fresh count need next =
-      let new : is_function f.name functions ≡ false = ap (is_function f.name) (sym same) ∙ sym fresh in
-      rw (only, new, next) (ap (λ (y : ℕ). Ok (measured y b)) (omega arith))
+      rw (only, ← known-is, ← fresh, next) (ap (λ (y : ℕ). Ok (measured y b)) (omega arith))
 
   pub function-signed : (n : ℕ) (after : List Signature) →
       after ≡ functions ++ record { name = f.name; count = n; place = f.place } ∷ [] → length f.parameters ≡ n →
@@ -52,22 +53,18 @@ module _ (ds : List Declaration) (f : Function) (variables : List ℕ) (function
 -- A variable alone: `found` is what the search for its name gave.
 module _ (ds : List Declaration) (a x : ℕ) (v : ℤ) (names seen : List ℕ) (functions : List Signature)
     (only : ds ≡ of_a_variable (declare a x v) ∷ []) (same : seen ≡ names) (found : Option ℕ)
-    (sought : found ≡ locate x (reverse seen)) where
-  found-is : found ≡ locate x (reverse names)
-  found-is = sought ∙ ap (λ (l : List ℕ). locate x (reverse l)) same
+    (sought : found ≡ locate x (reverse seen)) (known : Bool) (told : known ≡ is_some found) where
+  known-found : known ≡ is_some (locate x (reverse names))
+  known-found = told ∙ ap is_some (sought ∙ ap (λ (l : List ℕ). locate x (reverse l)) same)
 
-  pub variable-again : (m : Measured) → true ≡ is_some found → Err (DeclaredTwice a)
-      ≡ outcome (global_rules ds (reverse names) functions) m
-  variable-again m p =
-      let q : is_some (locate x (reverse names)) ≡ true = ap is_some (sym found-is) ∙ sym p in
-      rw (only, q) refl
+  pub variable-again : (m : Measured) (y : Refusal) → Err y ≡ unless (not known) (DeclaredTwice a) →
+      Err y ≡ outcome (global_rules ds (reverse names) functions) m
+  variable-again m y p = rw (only, ← known-found) (refused-own (unless (not known) (DeclaredTwice a)) (Ok tt) m y p)
 
-  pub variable-new : (n b : ℕ) → false ≡ is_some found → n ≡ b →
+  pub variable-new : (n b : ℕ) → Ok tt ≡ unless (not known) (DeclaredTwice a) → n ≡ b →
       Ok (measured 0 n)
       ≡ outcome (global_rules ds (reverse names) functions) (measured (need_functions (functions_of ds)) b)
-  variable-new n b fresh next =
-      let q : is_some (locate x (reverse names)) ≡ false = ap is_some (sym found-is) ∙ sym fresh in
-      rw (only, q, next) refl
+  variable-new n b fresh next = rw (only, ← known-found, ← fresh, next) refl
 
   pub variable-named : (after : List ℕ) → after ≡ names ++ x ∷ [] → after ≡ names ++ map name_of (variables_of ds)
   variable-named after pushed = pushed ∙ rw only refl

@@ -4,6 +4,7 @@ pub mod Several
 pub mod Outcomes
 pub mod Rules
 pub mod Scopes
+pub mod Locals
 pub mod Blocks
 pub mod Globals
 pub mod Functions

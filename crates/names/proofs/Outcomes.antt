@@ -1,8 +1,7 @@
 -- An answer of the rules to one who goes on with a value: the first refusal stands, and past an answer that is fine
 -- the next one counts.
-use Rattle.std.proofs.Common.{◌≡◌, Bool, true, not, Ok, Err, Result, refl}
+use Rattle.std.proofs.Common.{◌≡◌, Ok, Err, Result, refl}
 use Rattle.script.specs.declared.refusal.Refusal.{Refusal}
-use Rattle.script.specs.Refusals.{unless}
 use Rattle.names.specs.Names.{Answer, ◌⨟◌}
 use Rattle.names.specs.Passes.{outcome}
 
@@ -44,7 +43,3 @@ module _ {A : Type 0} where
 
   pub both-fine : (a b : Answer) (n m : A) → a ≡ Ok tt → b ≡ Ok tt → n ≡ m → Ok n ≡ outcome (a ⨟ b) m
   both-fine a b n m p q e = rw (p, q, e) refl
-
-  -- A name that is declared already.
-  pub twice : (b : Bool) (y : Refusal) (a : Answer) (m : A) → b ≡ true → Err y ≡ outcome (unless (not b) y ⨟ a) m
-  twice b y a m p = rw p refl

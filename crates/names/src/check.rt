@@ -1,10 +1,8 @@
 // The checks of a whole table.
-ghost use Rattle.std.specs.Prelude.{◌≡◌, map, IfOk, nat_le};
+ghost use Rattle.std.specs.Prelude.{◌≡◌, map, IfOk};
 ghost use Rattle.syntax.specs.Syntax.{name_of, globals_of, functions_of};
 ghost use Rattle.syntax.specs.Typed.{program_of};
 ghost use Rattle.stack.specs.Store.{contents};
-ghost use Rattle.script.specs.declared.refusal.Refusal.TheVariants.{FrameNeed};
-ghost use Rattle.script.specs.Refusals.{unless};
 ghost use Rattle.names.specs.Names.{signature as signature_of};
 ghost use Rattle.names.specs.Laws.{RightlyAnswered};
 ghost use Rattle.names.specs.Passes.{SameLenders};
@@ -16,7 +14,8 @@ use crate::frame::statement as measure;
 use crate::signature::Signature;
 use crate::sound::SoundTable;
 use crate::summary::Summary;
-use script::{Record, Refusal};
+use script::Record;
+use script::refusal::{Refusal, unless};
 use stack::Stack;
 
 impl Context<'_> {
@@ -32,18 +31,7 @@ impl Context<'_> {
     }
 }
 
-// A frame uses at most 100 words.
-fn check_need(need: usize) -> Result<(), Refusal>
-    ensures { result ≡ unless (nat_le need 100) FrameNeed }
-{
-    if need > 100 {
-        Err(Refusal::FrameNeed)
-    } else {
-        Ok(())
-    }
-}
-
-// The names of a sound table. What its program declares is then known.
+// The names of a sound table, and that a frame uses at most 100 words. What its program declares is then known.
 pub fn check_names(table: SoundTable<'_>, declared: &mut Declared<'_>) -> Result<Summary, Refusal>
     ensures answer { result ≡ checked_names table.entry.records.now }
     ensures variables { IfOk result (λ _. contents declared.new.globals
@@ -58,7 +46,7 @@ pub fn check_names(table: SoundTable<'_>, declared: &mut Declared<'_>) -> Result
     let context = declared.context(table);
     let main = context.check_bodies()?;
     let need = measure(table.records, main).words.max(found.words);
-    check_need(need)?;
+    unless(need <= 100, Refusal::FrameNeed)?;
     Ok(Summary {
         globals: context.globals.len(),
         functions: context.functions.len(),

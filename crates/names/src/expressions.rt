@@ -2,13 +2,13 @@
 ghost use Rattle.std.specs.Prelude.{◌≡◌, reverse};
 ghost use Rattle.script.specs.declared.rows.Sort.TheVariants.{Expression};
 ghost use Rattle.script.specs.Rows.{node_of};
-ghost use Rattle.syntax.specs.Trees.{Part};
-ghost use Rattle.syntax.specs.Trees.{Parts};
+ghost use Rattle.syntax.specs.Trees.{Part, Parts};
 ghost use Rattle.names.specs.Passes.{record_rule, checked_expression, checked_arguments};
 
 use crate::context::Context;
+use script::Record;
+use script::refusal::{Refusal, unless};
 use script::rows::NodeKind;
-use script::{Record, Refusal};
 use syntax::parts::{node_kind, part_count};
 
 impl Context<'_> {
@@ -18,7 +18,9 @@ impl Context<'_> {
             (reverse scope.now) (node_of node.kind) node at }
     {
         match node_kind(node) {
-            NodeKind::Variable | NodeKind::Assignment => self.check_use(node.a, at, scope),
+            NodeKind::Variable | NodeKind::Assignment => {
+                unless(self.is_declared(node.a, scope), Refusal::Undeclared(at))
+            }
             NodeKind::Call => self.check_call(node.a, part_count(node), at),
             _ => Ok(()),
         }

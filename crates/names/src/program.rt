@@ -14,8 +14,9 @@ use crate::find::find;
 use crate::frame::{Measured, statement as measure};
 use crate::lookups::is_function;
 use crate::signature::Signature;
+use script::Record;
+use script::refusal::{Refusal, unless};
 use script::rows::NodeKind;
-use script::{Record, Refusal};
 use stack::Stack;
 use syntax::parts::{node_kind, part_count};
 
@@ -39,9 +40,8 @@ impl Declared<'_> {
         let node = table[at];
         match node_kind(node) {
             NodeKind::Function => {
-                if is_function(self.functions.live(), node.a) {
-                    return Err(Refusal::DeclaredTwice(at));
-                }
+                let known = is_function(self.functions.live(), node.a);
+                unless(!known, Refusal::DeclaredTwice(at))?;
                 let parameters = part_count(node);
                 self.functions.push(Signature {
                     name: node.a,
@@ -55,9 +55,8 @@ impl Declared<'_> {
                 })
             }
             _ => {
-                if find(self.globals.live(), node.a).is_some() {
-                    return Err(Refusal::DeclaredTwice(at));
-                }
+                let known = find(self.globals.live(), node.a).is_some();
+                unless(!known, Refusal::DeclaredTwice(at))?;
                 self.globals.push(node.a);
                 Ok(Measured {
                     words: 0,
@@ -68,7 +67,12 @@ impl Declared<'_> {
     }
 
     // `count` global declarations from `at` on: their names and signatures go onto the stacks.
-    pub(crate) fn declarations(&mut self, table: &[Record], count: usize, at: usize) -> Result<Measured, Refusal>
+    pub(crate) fn declarations(
+        &mut self,
+        table: &[Record],
+        count: usize,
+        at: usize,
+    ) -> Result<Measured, Refusal>
         requires parts { Parts table.now at count Declaration }
         requires names { self.old.globals.height + count ≤ capacity self.old.globals }
         requires calls { self.old.functions.height + count ≤ capacity self.old.functions }

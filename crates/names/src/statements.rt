@@ -4,13 +4,12 @@ ghost use Rattle.std.specs.Prelude.{◌≡◌, ◌+◌, ◌≤◌, ◌++◌, map
 ghost use Rattle.stack.specs.Store.{contents, capacity};
 ghost use Rattle.script.specs.declared.rows.Sort.TheVariants.{Statement};
 ghost use Rattle.syntax.specs.Syntax.{name_of};
-ghost use Rattle.syntax.specs.Trees.{pieces, Leaves, Part};
+ghost use Rattle.syntax.specs.Trees.{LeafParts, Part, Parts};
 ghost use Rattle.syntax.specs.Typed.{variables_at};
-ghost use Rattle.syntax.specs.Trees.{Parts};
 ghost use Rattle.names.specs.Passes.{checked_locals, checked_statement, checked_statements, Kept};
 
 use crate::context::Context;
-use script::Refusal;
+use script::refusal::{Refusal, unless};
 use script::rows::NodeKind;
 use stack::Stack;
 use syntax::parts::{node_kind, statement_count};
@@ -31,8 +30,7 @@ impl Context<'_> {
         at: usize,
         scope: &mut Stack<'_, u16>,
     ) -> Result<usize, Refusal>
-        requires within { at + count ≤ length self.now.table.records.now }
-        requires sound { Leaves count (pieces self.now.table.records.now at count) }
+        requires parts { LeafParts self.now.table.records.now at count }
         requires room { scope.old.height + count ≤ capacity scope.old }
         ensures answer { result ≡ checked_locals self.now count at (contents scope.old) }
         ensures bound { IfOk result
@@ -42,10 +40,10 @@ impl Context<'_> {
         ensures store { capacity scope.new ≡ capacity scope.old }
     {
         let end = at + count;
-        for place in at..end {
-            let name = self.table.records[place].a;
-            self.check_new(name, place, scope.live())?;
-            scope.push(name);
+        for (index, node) in self.table.records[at..end].iter().enumerate() {
+            let known = self.is_declared(node.a, scope.live());
+            unless(!known, Refusal::DeclaredTwice(at + index))?;
+            scope.push(node.a);
         }
         Ok(end)
     }

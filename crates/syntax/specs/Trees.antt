@@ -88,3 +88,8 @@ pub record Part (table : List Record) (at : ℕ) (w : Sort) : Type 0 where
 pub record Parts (table : List Record) (at count : ℕ) (w : Sort) : Type 0 where
   pub within : at ≤ length table
   pub sound : Sounds (pieces table at count) (replicate count w)
+
+-- So many records without parts stand from an index of a table on.
+pub record LeafParts (table : List Record) (at count : ℕ) : Type 0 where
+  pub within : at + count ≤ length table
+  pub leaves : Leaves count (pieces table at count)

@@ -37,21 +37,21 @@ returns-in_err-main-clause-answer c =
 pub statement-requires : goal.statement-requires
 statement-requires c = main-part c.args.table c.in_ok-main.main (went _ _ _ (rw c.context-context.ensures.table at c.in_ok-main.ensures)).1
 
-pub returns-in_err-check_need-clause-answer : goal.returns-in_err-check_need-clause-answer
-returns-in_err-check_need-clause-answer c =
-    let q = err_from_is_err_and c.from_residual-in_err-check_need.result c.from_residual-in_err-check_need.ensures.1 in
-    let f = found (goal.at.returns-in_err-check_need-clause-answer c).After-context-context in
+pub returns-in_err-unless-clause-answer : goal.returns-in_err-unless-clause-answer
+returns-in_err-unless-clause-answer c =
+    let q = err_from_is_err_and c.from_residual-in_err-unless.result c.from_residual-in_err-unless.ensures.1 in
+    let f = found (goal.at.returns-in_err-unless-clause-answer c).After-context-context in
     let v = went _ _ _ (rw c.context-context.ensures.table at c.in_ok-main.ensures) in
     let own = c.statement.ensures.words ∙ need-of-main c.args.table _ v.1 in
     rw (q.1, q.2)
-    (need-refused c.args.table.records.now _ _ _ f v.0 _ _ own c.max-need.ensures _ c.in_err-check_need.ensures)
+    (need-refused c.args.table.records.now _ _ _ f v.0 _ _ own c.max-need.ensures _ c.in_err-unless.ensures)
 
 pub returns-clause-answer : goal.returns-clause-answer
 returns-clause-answer c =
     let f = found (goal.at.returns-clause-answer c).After-context-context in
     let v = went _ _ _ (rw c.context-context.ensures.table at c.in_ok-main.ensures) in
     let own = c.statement.ensures.words ∙ need-of-main c.args.table _ v.1 in
-    accepted c.args.table.records.now _ _ _ f v.0 _ _ own c.max-need.ensures _ v.1 c.in_ok-check_need.ensures
+    accepted c.args.table.records.now _ _ _ f v.0 _ _ own c.max-need.ensures _ v.1 c.in_ok-unless.ensures
 
 pub returns-clause-variables : goal.returns-clause-variables
 returns-clause-variables c =

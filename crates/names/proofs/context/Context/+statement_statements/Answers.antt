@@ -41,7 +41,7 @@ pub statement-locals-requires : goal.statement-locals-requires
 statement-locals-requires t c =
     let p = blocked c.args.self.now.table.records.now c.args.at _ _ _ no_record c.requires.part.within c.requires.part.sound
     (sym c.in-Block.ensures) refl refl refl in
-    record { within = p.within; sound = p.locals; room = omega (arith, p.within) }
+    record { parts = record { within = p.within; leaves = p.locals }; room = omega (arith, p.within) }
 
 pub statement-returns-in_err-first-in-Block-clause-answer : goal.statement-returns-in_err-first-in-Block-clause-answer
 statement-returns-in_err-first-in-Block-clause-answer t c =

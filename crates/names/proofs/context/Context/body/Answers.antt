@@ -38,8 +38,7 @@ locals-requires c =
     let p = function (goal.at.locals-requires c).After-part_count in
     let s : capacity c.new-scope.result ≡ length c.args.names.now = ap length c.new-scope.ensures.words in
     record {
-      within = omega (arith, p.function.within);
-      sound = p.function.parameters;
+      parts = record { within = omega (arith, p.function.within); leaves = p.function.parameters };
       room = omega (arith, p.function.within);
     }
 
