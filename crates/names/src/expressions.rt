@@ -1,4 +1,5 @@
 // The name rules of an expression and of an argument list, in a ring, since records nest.
+// How many parts there are, and from where on, differs from call to call in all rings of this crate: they make no value.
 ghost use Rattle.std.specs.Prelude.{◌≡◌, reverse};
 ghost use Rattle.script.specs.declared.rows.Sort.TheVariants.{Expression};
 ghost use Rattle.script.specs.Rows.{node_of};

@@ -17,7 +17,7 @@ arguments-expression-next-requires t c =
     let a : Emitter = c.args.self.now in
     let k : 0 < c.args.count - c.loop.counter = omega arith in
     let left = c.loop.invariant in
-    let p = firsts a.context.table.now c.loop.next (c.args.count - c.loop.counter) _ _ k left.left.sound refl in
+    let p = firsts a.context.table.records.now c.loop.next (c.args.count - c.loop.counter) _ _ k left.left.sound refl in
     rw (same_table a c.loop.self left.keeps.loans) (
       omega (arith, p.within, left.further),
       (record { within = p.within; sound = p.first }, omega (arith, p.whole, left.len, left.keeps.loans.code_capacity)),
@@ -31,7 +31,7 @@ arguments-loop-preserved t c =
     let left = c.loop.invariant in
     let done = c.expression-next.ensures in
     let same = same_table a c.loop.self left.keeps.loans in
-    let p = firsts a.context.table.now c.loop.next (c.args.count - c.loop.counter) c.expression-next.result _ k left.left.sound
+    let p = firsts a.context.table.records.now c.loop.next (c.args.count - c.loop.counter) c.expression-next.result _ k left.left.sound
     (rw same at done.next) in
     let n = rw same at done.len in
     rw (← j) record {
@@ -46,13 +46,13 @@ arguments-loop-preserved t c =
 
 pub expression-arguments-next-requires : goal.expression-arguments-next-requires
 expression-arguments-next-requires t c =
-    let p = expressed c.args.self.now.context.table.now c.args.at _ no_record c.requires.part.within
+    let p = expressed c.args.self.now.context.table.records.now c.args.at _ no_record c.requires.part.within
     c.requires.part.sound c.part_count.ensures in
     (omega (arith, p.within), (record { within = p.within; sound = p.sound }, omega (arith, p.whole)))
 
 pub expression-append-requires : goal.expression-append-requires
 expression-append-requires t c =
-    let p = expressed c.args.self.now.context.table.now c.args.at _ no_record c.requires.part.within
+    let p = expressed c.args.self.now.context.table.records.now c.args.at _ no_record c.requires.part.within
     c.requires.part.sound c.part_count.ensures in
     omega (arith, p.whole, c.arguments-next.ensures.keeps.loans.code_capacity)
 
@@ -60,7 +60,7 @@ pub expression-returns : goal.expression-returns
 expression-returns t c =
     let a : Emitter = c.args.self.now in
     let e : Emitter = c.arguments-next.new.self in
-    let p = expressed a.context.table.now c.args.at _ no_record c.requires.part.within c.requires.part.sound
+    let p = expressed a.context.table.records.now c.args.at _ no_record c.requires.part.within c.requires.part.sound
     c.part_count.ensures in
     record {
       items = rw (expression-code (reverse a.context.globals.now) a.context.functions.now (reverse (contents a.scope.now)) _ _ _ _ p)
