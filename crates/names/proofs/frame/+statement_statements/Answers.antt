@@ -1,13 +1,11 @@
 use Rattle.std.proofs.Common.{◌≡◌, ℕ, ◌+◌, ◌-◌, ◌<◌, sym, refl, ap, ◌∙◌, arith}
-use Rattle.script.specs.declared.rows.Sort.TheVariants.{Statement}
 use Rattle.syntax.specs.Trees.{tree_at, size, no_record}
 use Rattle.syntax.specs.Typed.{statements_of}
 use Rattle.names.specs.Need.{need_statements}
-use Rattle.syntax.proofs.Expressions.{Firsts, firsts}
 use Rattle.syntax.proofs.Statements.{stated, blocked}
 use Rattle.names.proofs.Rules.{statement-need, block-need}
+use Rattle.names.proofs.Several.{several}
 use Rattle.names.proofs.frame.+statement_statements.Goals as goal
-use Rattle.names.proofs.frame.+statement_statements.Goals.{statements-In-loop}
 
 pub statement-statements-body-requires : goal.statement-statements-body-requires
 statement-statements-body-requires t c =
@@ -48,22 +46,14 @@ statement-returns-in_default t c =
       ends = omega arith;
     }
 
--- The first of the statements that are left, and those from m on.
-several : (t : ℕ) (c : statements-In-loop t) (m : ℕ) →
-    m ≡ c.loop.found.next + size (tree_at c.args.table.now c.loop.found.next) →
-    Firsts c.args.table.now c.loop.found.next (c.args.count - c.loop.counter) m Statement
-several t c m e =
-    let k : 0 < c.args.count - c.loop.counter = omega arith in
-    firsts c.args.table.now c.loop.found.next _ m _ k c.loop.invariant.parts.sound e
-
 pub statements-statement-part-requires : goal.statements-statement-part-requires
 statements-statement-part-requires t c =
-    let p = several t (goal.at.statements-statement-part-requires t c).In-loop _ refl in
+    let p = several c.loop.invariant.parts (omega arith) refl in
     (omega arith, record { within = p.within; sound = p.first })
 
 pub statements-loop-preserved : goal.statements-loop-preserved
 statements-loop-preserved t c =
-    let p = several t (goal.at.statements-loop-preserved t c).In-loop c.statement-part.result.next c.statement-part.ensures.next in
+    let p = several c.loop.invariant.parts (omega arith) c.statement-part.ensures.next in
     let e : c.args.count - c.loop.counter - 1 ≡ c.args.count - (c.loop.counter + 1) = omega arith in
     let n = ap (λ f. need_statements (statements_of f) c.args.below) p.parts in
     rw (← e) record {

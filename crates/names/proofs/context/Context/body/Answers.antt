@@ -1,11 +1,10 @@
 use Rattle.std.proofs.Common.{◌≡◌, ◌+◌, reverse, length, get_or, sym, refl, ap, ◌∙◌, arith, lit<}
-use Rattle.std.proofs.lemmas.Result.{err_from_is_err_and}
 use Rattle.stack.specs.Store.{capacity}
 use Rattle.syntax.specs.Trees.{tree_at, size, no_record}
 use Rattle.syntax.specs.Typed.{declarations_at}
 use Rattle.syntax.proofs.Expressions.{firsts}
 use Rattle.syntax.proofs.Declarations.{FirstFunction, first_function, first-variable}
-use Rattle.names.proofs.Outcomes.{went}
+use Rattle.names.proofs.Outcomes.{handed, went}
 use Rattle.names.proofs.Scopes.{empty}
 use Rattle.names.proofs.Functions.{parameters-refused, function-answered, variable-answered}
 use Rattle.names.proofs.context.Context.body.Goals as goal
@@ -45,8 +44,7 @@ locals-requires c =
 pub returns-in_err-body-in-Function : goal.returns-in_err-body-in-Function
 returns-in_err-body-in-Function c =
     let p = function (goal.at.returns-in_err-body-in-Function c).After-part_count in
-    let q = err_from_is_err_and c.from_residual.result c.from_residual.ensures.1 in
-    rw (q.1, q.2)
+    handed c.from_residual.ensures.1
     (parameters-refused c.args.self.now c.args.at _ _ _ _ p _ (empty c.new-scope.result c.new-scope.ensures.height) _
     c.in_err-body-in-Function.ensures.answer)
 

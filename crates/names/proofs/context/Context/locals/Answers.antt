@@ -1,16 +1,15 @@
 use Rattle.std.proofs.Common.{◌<◌, reverse, ◌∙◌, arith}
-use Rattle.std.proofs.lemmas.Result.{err_from_is_err_and}
 use Rattle.stack.specs.Store.{capacity}
 use Rattle.stack.proofs.Contents.{height-pushed, contents-pushed, capacity-pushed}
 use Rattle.names.proofs.Locals.{next-local}
 use Rattle.names.proofs.Scopes.{local-again, local-new, one_more}
+use Rattle.names.proofs.Outcomes.{handed}
 use Rattle.names.proofs.context.Context.locals.Goals as goal
 
 pub returns-in_err-unless-clause-answer : goal.returns-in_err-unless-clause-answer
 returns-in_err-unless-clause-answer c =
     let p = next-local _ _ _ _ c.loop-index-test.true c.loop-index.invariant.parts in
-    let q = err_from_is_err_and c.from_residual.result c.from_residual.ensures.1 in
-    rw (q.1, q.2)
+    handed c.from_residual.ensures.1
     (local-again _ _ _ _ _ _ _ _ p.is c.live.ensures _ _ (rw c.is_declared-known.ensures at c.in_err-unless.ensures)
     ∙ c.loop-index.invariant.answer)
 

@@ -1,5 +1,4 @@
 use Rattle.std.proofs.Common.{◌+◌, ◌<◌, reverse, length, get_or, sym, refl, ◌∙◌, arith, rules, lit<}
-use Rattle.std.proofs.lemmas.Result.{err_from_is_err_and}
 use Rattle.stack.specs.Store.{contents}
 use Rattle.stack.proofs.Contents.{contents-pushed}
 use Rattle.script.specs.declared.record.Record.{Record}
@@ -9,6 +8,7 @@ use Rattle.syntax.proofs.Expressions.{firsts}
 use Rattle.syntax.proofs.Declarations.{FirstFunction, FirstVariable, first_function, first-variable}
 use Rattle.names.proofs.Globals.{function-again, function-new, function-signed, no-variable}
 use Rattle.names.proofs.Globals.{variable-again, variable-new, variable-named, no-function}
+use Rattle.names.proofs.Outcomes.{handed}
 use Rattle.names.proofs.declared.Declared.declaration.Goals as goal
 use Rattle.names.proofs.declared.Declared.declaration.Goals.{After-statement-body, In_default}
 
@@ -19,8 +19,7 @@ pub returns-in_err-unless-in-Function-clause-answer : goal.returns-in_err-unless
 returns-in_err-unless-in-Function-clause-answer c =
     let p = first_function c.args.table.now c.args.at 1 _ _ _ no_record (lit< tt) c.requires.parts.sound
     (sym c.in-Function.ensures) refl refl refl in
-    let q = err_from_is_err_and c.from_residual.result c.from_residual.ensures.1 in
-    rw (q.1, q.2)
+    handed c.from_residual.ensures.1
     (function-again _ _ (reverse (contents c.args.self.now.globals)) _ _ p.is c.live.ensures _ c.is_function-known.ensures _ _
     c.in_err-unless-in-Function.ensures)
 
@@ -77,9 +76,7 @@ pub returns-in_err-unless-in_default-clause-answer : goal.returns-in_err-unless-
 returns-in_err-unless-in_default-clause-answer c =
     let p = variable (goal.at.returns-in_err-unless-in_default-clause-answer c).In_default in
     let r : Record = get_or c.args.table.now c.args.at no_record in
-    let q = err_from_is_err_and c.from_residual-in_err-unless-in_default.result
-    c.from_residual-in_err-unless-in_default.ensures.1 in
-    rw (q.1, q.2)
+    handed c.from_residual-in_err-unless-in_default.ensures.1
     (variable-again (declarations_at c.args.table.now c.args.at 1) c.args.at r.a r.v (contents c.args.self.now.globals) _
     (contents c.args.self.now.functions) p.is c.live-in_default.ensures c.find.result c.find.ensures.place _
     c.is_some-known.ensures _ _ c.in_err-unless-in_default.ensures)
