@@ -7,15 +7,13 @@ use Rattle.script.specs.declared.refusal.Refusal.TheVariants.{DeclaredTwice}
 use Rattle.script.specs.Refusals.{unless}
 use Rattle.syntax.specs.Syntax.{VariableDeclaration, declare, Declaration, of_a_variable, of_a_function, name_of}
 use Rattle.syntax.specs.Syntax.{functions_of}
-use Rattle.syntax.specs.Trees.{Tree, tree_at, pieces, size, sizes, Leaves, no_record}
+use Rattle.syntax.specs.Trees.{Tree, tree_at, pieces, size, sizes, Leaves, no_record, Parts}
 use Rattle.syntax.specs.Typed.{variables_at, statement_at, declarations_at, make_declaration, node_kind}
-use Rattle.syntax.specs.Trees.{Parts}
 use Rattle.names.specs.declared.context.Context.{Context}
 use Rattle.syntax.proofs.Statements.{declared-first}
 use Rattle.syntax.proofs.Declarations.{FirstFunction}
 use Rattle.names.specs.declared.signature.Signature.{Signature}
-use Rattle.names.specs.Names.{Answer, ◌⨟◌, declared, local_rules, parameter_rules, statement_rules}
-use Rattle.names.specs.Names.{function_rules}
+use Rattle.names.specs.Names.{Answer, ◌⨟◌, declared, local_rules, parameter_rules, statement_rules, function_rules}
 use Rattle.names.specs.Passes.{outcome, checked_locals, checked_statement, checked_functions}
 use Rattle.names.proofs.Outcomes.{last, refused, regroup, went}
 use Rattle.names.proofs.Several.{first}

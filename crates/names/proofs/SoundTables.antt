@@ -2,7 +2,8 @@
 use Rattle.std.proofs.Common.{◌≡◌, ℕ, ◌+◌, ◌≤◌, true, List, length, get_or, is_ok, Ok, Err, refl, arith}
 use Rattle.std.proofs.lemmas.Bool.{false≢true}
 use Rattle.script.specs.declared.record.Record.{Record}
-use Rattle.script.specs.declared.rows.Sort.TheVariants.{Statement as StatementSort, Declaration as DeclarationSort, Program as ProgramSort}
+use Rattle.script.specs.declared.rows.Sort.TheVariants.{Statement as StatementSort, Declaration as DeclarationSort}
+use Rattle.script.specs.declared.rows.Sort.TheVariants.{Program as ProgramSort}
 use Rattle.script.specs.Shape.{shape}
 use Rattle.syntax.specs.Trees.{tree_at, size, no_record, Sound, Part, Parts}
 use Rattle.syntax.specs.Typed.{statement_at, declarations_at, program_of}

@@ -24,6 +24,10 @@ impl<'a> Declared<'a> {
     // Nothing yet.
     pub fn new(names: &'a mut [u16], signatures: &'a mut [Signature]) -> Declared<'a>
         requires { (128 ≤ length names.old) × (128 ≤ length signatures.old) }
+        ensures globals { contents result.globals ≡ [] }
+        ensures functions { contents result.functions ≡ [] }
+        ensures lenders { (result.globals.words.ghost_name ≡ names.entry.ghost_name)
+            × (result.functions.words.ghost_name ≡ signatures.entry.ghost_name) }
     {
         Declared {
             globals: Stack::new(names, 0),

@@ -4,11 +4,10 @@ use Rattle.script.specs.declared.record.Record.{Record}
 use Rattle.script.specs.declared.rows.Sort.TheVariants.{Declaration as DeclarationSort}
 use Rattle.script.specs.declared.rows.NodeKind.TheVariants as is
 use Rattle.syntax.specs.Syntax.{declare, of_a_variable, of_a_function, Function}
-use Rattle.syntax.specs.Trees.{tree_at, pieces, size, sizes, Leaves, no_record}
+use Rattle.syntax.specs.Trees.{tree_at, pieces, size, sizes, Leaves, no_record, Parts}
 use Rattle.syntax.specs.Typed.{variables_at, declarations_at, function_of, node_at, first_parts}
 use Rattle.syntax.proofs.Expressions.{firsts}
 use Rattle.syntax.proofs.Declarations.{functional, first_function, first-variable}
-use Rattle.syntax.specs.Trees.{Parts}
 
 -- One more piece is put down.
 pub moved : {A : Type 0} (x y p u v all : List A) → u ≡ p ++ v → x ++ u ≡ all → y ≡ x ++ p → y ++ v ≡ all

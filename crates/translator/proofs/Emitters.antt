@@ -6,8 +6,8 @@ use Rattle.syntax.specs.Typed.{statements_at}
 use Rattle.names.specs.declared.context.Context.{Context}
 use Rattle.code.specs.Scheme.{block_code}
 use Rattle.translator.specs.declared.emitter.Emitter.{Emitter}
-use Rattle.translator.specs.Emitting.{SameLoans, Keeps, operation_here, expression_here}
-use Rattle.translator.specs.Emitting.{statement_from, statement_here, statements_here}
+use Rattle.translator.specs.Emitting.{SameLoans, Keeps, operation_here, expression_here, statement_from, statement_here}
+use Rattle.translator.specs.Emitting.{statements_here}
 
 -- Steps one after another.
 pub same_loans : {a b c : Emitter} → SameLoans a b → SameLoans b c → SameLoans a c

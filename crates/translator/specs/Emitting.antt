@@ -10,8 +10,8 @@ use Rattle.code.specs.declared.instruction.Operation.{Operation}
 use Rattle.code.specs.declared.instruction.Operation.TheVariants.{Pop}
 use Rattle.code.specs.declared.instruction.Instruction.{Instruction}
 use Rattle.code.specs.declared.instruction.FunctionEntry.{FunctionEntry}
-use Rattle.code.specs.Scheme.{expression_code, arguments_code, statement_code, block_code, function_code, functions_code}
-use Rattle.code.specs.Scheme.{entries_from, number_of}
+use Rattle.code.specs.Scheme.{expression_code, arguments_code, statement_code, block_code, function_code}
+use Rattle.code.specs.Scheme.{functions_code, entries_from, number_of}
 use Rattle.translator.specs.Records.{record_operation}
 use Rattle.translator.specs.declared.emitter.Emitter.{Emitter}
 

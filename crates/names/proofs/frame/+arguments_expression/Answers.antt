@@ -5,6 +5,7 @@ use Rattle.names.specs.Need.{need_arguments}
 use Rattle.syntax.proofs.Expressions.{expressed}
 use Rattle.names.proofs.Rules.{expression-need}
 use Rattle.names.proofs.Several.{several}
+use Rattle.names.proofs.Standing.{expression-parts}
 use Rattle.names.proofs.frame.+arguments_expression.Goals as goal
 
 pub arguments-expression-part-requires : goal.arguments-expression-part-requires
@@ -29,14 +30,12 @@ arguments-loop-below-preserved t c =
 
 pub expression-arguments-requires : goal.expression-arguments-requires
 expression-arguments-requires t c =
-    let p = expressed c.args.table.now c.args.at _ no_record c.requires.within c.requires.sound
-    c.part_count.ensures in
+    let p = expression-parts c.requires c.part_count.ensures in
     (omega arith, record { within = p.within; sound = p.sound })
 
 pub expression-returns : goal.expression-returns
 expression-returns t c =
-    let p = expressed c.args.table.now c.args.at _ no_record c.requires.within c.requires.sound
-    c.part_count.ensures in
+    let p = expression-parts c.requires c.part_count.ensures in
     record {
       words = omega (arith, expression-need _ _ _ _ p);
       next = omega (arith, p.whole);

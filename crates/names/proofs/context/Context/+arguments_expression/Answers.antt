@@ -4,6 +4,7 @@ use Rattle.syntax.proofs.Expressions.{expressed}
 use Rattle.names.proofs.Outcomes.{handed, refused, refused-own, went, on}
 use Rattle.names.proofs.Rules.{expression-rules}
 use Rattle.names.proofs.Several.{several}
+use Rattle.names.proofs.Standing.{expression-parts}
 use Rattle.names.proofs.context.Context.+arguments_expression.Goals as goal
 
 pub arguments-expression-requires : goal.arguments-expression-requires
@@ -29,18 +30,16 @@ arguments-loop-preserved t c =
 
 pub expression-returns-in_err-check_record : goal.expression-returns-in_err-check_record
 expression-returns-in_err-check_record t c =
-    let p = expressed c.args.self.now.table.records.now c.args.at _ no_record c.requires.within c.requires.sound refl in
+    let p = expression-parts c.requires refl in
     handed c.from_residual.ensures.1 (rw (expression-rules _ _ _ _ _ _ _ refl p) (refused-own _ _ _ _ c.in_err-check_record.ensures))
 
 pub expression-arguments-requires : goal.expression-arguments-requires
 expression-arguments-requires t c =
-    let p = expressed c.args.self.now.table.records.now c.args.at _ no_record c.requires.within c.requires.sound
-    c.part_count.ensures in
+    let p = expression-parts c.requires c.part_count.ensures in
     (omega arith, record { within = p.within; sound = p.sound })
 
 pub expression-returns : goal.expression-returns
 expression-returns t c =
-    let p = expressed c.args.self.now.table.records.now c.args.at _ no_record c.requires.within c.requires.sound
-    c.part_count.ensures in
+    let p = expression-parts c.requires c.part_count.ensures in
     rw (expression-rules _ _ _ _ _ _ _ c.part_count.ensures p)
     (on _ _ _ _ _ (sym c.in_ok-check_record.ensures) (omega (arith, p.whole)) c.arguments.ensures)

@@ -8,8 +8,10 @@ use Rattle.names.proofs.Blocks.{locals-refused, block-answered, test-refused, pl
 use Rattle.names.proofs.Outcomes.{handed, refused, went, on}
 use Rattle.names.proofs.Scopes.{dropped}
 use Rattle.names.proofs.Several.{several}
+use Rattle.names.proofs.Standing.{block-parts, plain-parts}
 use Rattle.names.proofs.context.Context.+statement_statements.Goals as goal
-use Rattle.names.proofs.context.Context.+statement_statements.Goals.{statement-In_ok-first-in-Block, statement-In_ok-next-in_default}
+use Rattle.names.proofs.context.Context.+statement_statements.Goals.{statement-In_ok-first-in-Block}
+use Rattle.names.proofs.context.Context.+statement_statements.Goals.{statement-In_ok-next-in_default}
 
 -- A block past its locals, and another statement past its expression.
 block : (t : ℕ) (c : statement-In_ok-first-in-Block t) →
@@ -17,27 +19,23 @@ block : (t : ℕ) (c : statement-In_ok-first-in-Block t) →
     c.statement_count-count.result c.in_ok-first-in-Block.first
 block t c =
     let w = went _ _ _ c.in_ok-first-in-Block.ensures.answer in
-    blocked c.args.self.now.table.records.now c.args.at _ _ c.in_ok-first-in-Block.first no_record c.requires.part.within
-    c.requires.part.sound (sym c.in-Block.ensures) refl c.statement_count-count.ensures w.1
+    block-parts c.requires.part (sym c.in-Block.ensures) refl c.statement_count-count.ensures w.1
 
 plain : (t : ℕ) (c : statement-In_ok-next-in_default t) →
     Stated c.args.self.now.table.records.now c.args.at c.statement_count-count.result c.in_ok-next-in_default.next
     (get_or c.args.self.now.table.records.now c.args.at no_record)
 plain t c =
     let w = went _ _ _ c.in_ok-next-in_default.ensures in
-    stated c.args.self.now.table.records.now c.args.at _ c.in_ok-next-in_default.next no_record c.requires.part.within
-    c.requires.part.sound (λ e. c.in_default.not-Block (c.node_kind.ensures ∙ e)) c.statement_count-count.ensures w.1
+    plain-parts c.requires.part (λ e. c.in_default.not-Block (c.node_kind.ensures ∙ e)) c.statement_count-count.ensures w.1
 
 pub statement-locals-requires : goal.statement-locals-requires
 statement-locals-requires t c =
-    let p = blocked c.args.self.now.table.records.now c.args.at _ _ _ no_record c.requires.part.within c.requires.part.sound
-    (sym c.in-Block.ensures) refl refl refl in
+    let p = block-parts c.requires.part (sym c.in-Block.ensures) refl refl refl in
     record { parts = record { within = p.within; leaves = p.locals }; room = omega (arith, p.within) }
 
 pub statement-returns-in_err-first-in-Block-clause-answer : goal.statement-returns-in_err-first-in-Block-clause-answer
 statement-returns-in_err-first-in-Block-clause-answer t c =
-    let p = blocked c.args.self.now.table.records.now c.args.at _ _ _ no_record c.requires.part.within c.requires.part.sound
-    (sym c.in-Block.ensures) refl refl refl in
+    let p = block-parts c.requires.part (sym c.in-Block.ensures) refl refl refl in
     handed c.from_residual.ensures.1
     (locals-refused c.args.self.now (contents c.args.scope.now) c.args.at _ _ _ p _ c.in_err-first-in-Block.ensures.answer)
 
@@ -61,14 +59,12 @@ statement-returns-in_err-next-in-Block-clause-answer t c =
 
 pub statement-expression-requires : goal.statement-expression-requires
 statement-expression-requires t c =
-    let p = stated c.args.self.now.table.records.now c.args.at _ _ no_record c.requires.part.within c.requires.part.sound
-    (λ e. c.in_default.not-Block (c.node_kind.ensures ∙ e)) refl refl in
+    let p = plain-parts c.requires.part (λ e. c.in_default.not-Block (c.node_kind.ensures ∙ e)) refl refl in
     record { within = p.within; sound = p.test_sound }
 
 pub statement-returns-in_err-next-in_default-clause-answer : goal.statement-returns-in_err-next-in_default-clause-answer
 statement-returns-in_err-next-in_default-clause-answer t c =
-    let p = stated c.args.self.now.table.records.now c.args.at _ _ no_record c.requires.part.within c.requires.part.sound
-    (λ e. c.in_default.not-Block (c.node_kind.ensures ∙ e)) refl refl in
+    let p = plain-parts c.requires.part (λ e. c.in_default.not-Block (c.node_kind.ensures ∙ e)) refl refl in
     handed c.from_residual-in_err-next-in_default.ensures.1 (rw (← c.live.ensures)
     (test-refused c.args.self.now c.live.result.now c.args.at _ _ _ p _ c.in_err-next-in_default.ensures))
 

@@ -7,6 +7,7 @@ use Rattle.syntax.proofs.Declarations.{FirstFunction, first_function, first-vari
 use Rattle.names.proofs.Outcomes.{handed, went}
 use Rattle.names.proofs.Scopes.{empty}
 use Rattle.names.proofs.Functions.{parameters-refused, function-answered, variable-answered}
+use Rattle.names.proofs.Standing.{function-parts, variable-parts}
 use Rattle.names.proofs.context.Context.body.Goals as goal
 use Rattle.names.proofs.context.Context.body.Goals.{After-part_count, In_ok-body-in-Function}
 
@@ -20,8 +21,7 @@ function : (c : After-part_count) →
     FirstFunction c.args.self.now.table.records.now c.args.at 1 c.part_count.result m (m + size (tree_at c.args.self.now.table.records.now m))
     (get_or c.args.self.now.table.records.now c.args.at no_record)
 function c =
-    first_function c.args.self.now.table.records.now c.args.at 1 c.part_count.result _ _ no_record (lit< tt) c.requires.parts.sound
-    (sym c.in-Function.ensures) c.part_count.ensures refl refl
+    function-parts c.requires.parts (sym c.in-Function.ensures) c.part_count.ensures refl refl
 
 function-past : (c : In_ok-body-in-Function) →
     let m = c.in_ok-body-in-Function.body in
@@ -29,8 +29,7 @@ function-past : (c : In_ok-body-in-Function) →
     (get_or c.args.self.now.table.records.now c.args.at no_record)
 function-past c =
     let w = went _ _ _ c.in_ok-body-in-Function.ensures.answer in
-    first_function c.args.self.now.table.records.now c.args.at 1 c.part_count.result _ _ no_record (lit< tt) c.requires.parts.sound
-    (sym c.in-Function.ensures) c.part_count.ensures w.1 refl
+    function-parts c.requires.parts (sym c.in-Function.ensures) c.part_count.ensures w.1 refl
 
 pub locals-requires : goal.locals-requires
 locals-requires c =
@@ -62,7 +61,6 @@ returns-in_ok-body-in-Function c =
 pub returns-in_default : goal.returns-in_default
 returns-in_default c =
     let table = c.args.self.now.table.records.now in
-    let p = first-variable table c.args.at 1 no_record (lit< tt) c.requires.parts.sound
-    (λ e. c.in_default.not-Function (c.node_kind.ensures ∙ e)) in
+    let p = variable-parts c.requires.parts (λ e. c.in_default.not-Function (c.node_kind.ensures ∙ e)) in
     variable-answered (reverse c.args.self.now.globals.now) c.args.self.now.functions.now
     (declarations_at table c.args.at 1) _ _ _ p.is (omega (arith, p.whole))

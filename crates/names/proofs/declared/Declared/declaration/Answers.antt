@@ -6,9 +6,10 @@ use Rattle.syntax.specs.Trees.{no_record}
 use Rattle.syntax.specs.Typed.{declarations_at}
 use Rattle.syntax.proofs.Expressions.{firsts}
 use Rattle.syntax.proofs.Declarations.{FirstFunction, FirstVariable, first_function, first-variable}
-use Rattle.names.proofs.Globals.{function-again, function-new, function-signed, no-variable}
-use Rattle.names.proofs.Globals.{variable-again, variable-new, variable-named, no-function}
+use Rattle.names.proofs.Globals.{function-again, function-new, function-signed, no-variable, variable-again}
+use Rattle.names.proofs.Globals.{variable-new, variable-named, no-function}
 use Rattle.names.proofs.Outcomes.{handed}
+use Rattle.names.proofs.Standing.{function-parts, variable-parts}
 use Rattle.names.proofs.declared.Declared.declaration.Goals as goal
 use Rattle.names.proofs.declared.Declared.declaration.Goals.{After-statement-body, In_default}
 
@@ -17,23 +18,20 @@ bounds-table-at c = (firsts c.args.table.now c.args.at 1 _ _ (lit< tt) c.require
 
 pub returns-in_err-unless-in-Function-clause-answer : goal.returns-in_err-unless-in-Function-clause-answer
 returns-in_err-unless-in-Function-clause-answer c =
-    let p = first_function c.args.table.now c.args.at 1 _ _ _ no_record (lit< tt) c.requires.parts.sound
-    (sym c.in-Function.ensures) refl refl refl in
+    let p = function-parts c.requires.parts (sym c.in-Function.ensures) refl refl refl in
     handed c.from_residual.ensures.1
     (function-again _ _ (reverse (contents c.args.self.now.globals)) _ _ p.is c.live.ensures _ c.is_function-known.ensures _ _
     c.in_err-unless-in-Function.ensures)
 
 pub overflow_add-at-in-Function : goal.overflow_add-at-in-Function
 overflow_add-at-in-Function c =
-    let p = first_function c.args.table.now c.args.at 1 _ _ _ no_record (lit< tt) c.requires.parts.sound
-    (sym c.in-Function.ensures) c.part_count-parameters.ensures refl refl in
+    let p = function-parts c.requires.parts (sym c.in-Function.ensures) c.part_count-parameters.ensures refl refl in
     let h : c.args.at + 1 + c.part_count-parameters.result < length c.args.table.now = p.function.within in
     search rules
 
 pub statement-body-requires : goal.statement-body-requires
 statement-body-requires c =
-    let p = first_function c.args.table.now c.args.at 1 _ _ _ no_record (lit< tt) c.requires.parts.sound
-    (sym c.in-Function.ensures) c.part_count-parameters.ensures refl refl in
+    let p = function-parts c.requires.parts (sym c.in-Function.ensures) c.part_count-parameters.ensures refl refl in
     record { within = p.function.within; sound = p.function.body }
 
 -- A function that is new, and its body measured.
@@ -42,8 +40,7 @@ function : (c : After-statement-body) →
     FirstFunction c.args.table.now c.args.at 1 c.part_count-parameters.result m c.statement-body.result.next
     (get_or c.args.table.now c.args.at no_record)
 function c =
-    first_function c.args.table.now c.args.at 1 c.part_count-parameters.result _ _ no_record (lit< tt)
-    c.requires.parts.sound (sym c.in-Function.ensures) c.part_count-parameters.ensures refl c.statement-body.ensures.next
+    function-parts c.requires.parts (sym c.in-Function.ensures) c.part_count-parameters.ensures refl c.statement-body.ensures.next
 
 pub returns-in_ok-unless-in-Function-clause-answer : goal.returns-in_ok-unless-in-Function-clause-answer
 returns-in_ok-unless-in-Function-clause-answer c =
@@ -69,8 +66,7 @@ returns-in_ok-unless-in-Function-clause-signatures c =
 -- A variable.
 variable : (c : In_default) → FirstVariable c.args.table.now c.args.at 1 (get_or c.args.table.now c.args.at no_record)
 variable c =
-    first-variable c.args.table.now c.args.at 1 no_record (lit< tt) c.requires.parts.sound
-    (λ e. c.in_default.not-Function (c.node_kind.ensures ∙ e))
+    variable-parts c.requires.parts (λ e. c.in_default.not-Function (c.node_kind.ensures ∙ e))
 
 pub returns-in_err-unless-in_default-clause-answer : goal.returns-in_err-unless-in_default-clause-answer
 returns-in_err-unless-in_default-clause-answer c =

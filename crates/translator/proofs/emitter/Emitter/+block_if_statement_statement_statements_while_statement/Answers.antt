@@ -17,6 +17,7 @@ use Rattle.translator.proofs.Lists.{joined, put_as, long}
 use Rattle.translator.proofs.Codes.{if-code, while-code, then-code, block-code}
 use Rattle.translator.proofs.Emitters.{same_loans, kept, same_table, expression-kept, statement-kept, statements-under}
 use Rattle.translator.proofs.Steps.{ready, several-ready, halfway, tested, locals, inside}
+use Rattle.names.proofs.Standing.{block-parts}
 use Rattle.translator.proofs.emitter.Emitter.+block_if_statement_statement_statements_while_statement.Goals as goal
 
 pub if_statement-expression-first-requires : goal.if_statement-expression-first-requires
@@ -182,7 +183,7 @@ while_statement-returns t c =
 
 pub block-enter-requires : goal.block-enter-requires
 block-enter-requires t c =
-    let p = blocked _ c.args.at _ _ _ no_record c.requires.part.within c.requires.part.sound c.requires.kind refl refl refl in
+    let p = block-parts c.requires.part c.requires.kind refl refl refl in
     record {
       parts = record { within = omega (arith, p.within); leaves = p.locals };
       names = omega (arith, p.within, c.requires.room.names);
@@ -191,7 +192,7 @@ block-enter-requires t c =
 
 pub block-statements-next-requires : goal.block-statements-next-requires
 block-statements-next-requires t c =
-    let p = blocked _ c.args.at _ _ _ no_record c.requires.part.within c.requires.part.sound c.requires.kind refl c.statement_count.ensures refl in (
+    let p = block-parts c.requires.part c.requires.kind refl c.statement_count.ensures refl in (
       omega (arith, p.within, ap length (same_table _ _ c.enter.ensures.loans)),
       several-ready c.enter.ensures.loans c.requires.room (omega arith) p.within p.others (omega (arith, p.whole)),
     )

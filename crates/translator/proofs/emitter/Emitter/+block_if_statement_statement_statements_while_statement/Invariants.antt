@@ -1,7 +1,6 @@
 use Rattle.std.proofs.Common.{◌≡◌, ◌+◌, ◌-◌, ◌*◌, ◌≤◌, ◌++◌, length, vec_items, vec_len}
 use Rattle.script.specs.declared.rows.Sort.TheVariants.{Statement}
-use Rattle.syntax.specs.Trees.{pieces, sizes}
-use Rattle.syntax.specs.Trees.{Parts}
+use Rattle.syntax.specs.Trees.{pieces, sizes, Parts}
 use Rattle.translator.specs.Emitting.{Keeps, statements_from}
 use Rattle.translator.proofs.emitter.Emitter.+block_if_statement_statement_statements_while_statement.Given as goal
 

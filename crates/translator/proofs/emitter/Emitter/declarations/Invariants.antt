@@ -1,7 +1,6 @@
 use Rattle.std.proofs.Common.{◌≡◌, ◌+◌, ◌-◌, ◌*◌, ◌≤◌, ◌++◌, vec_items, vec_len, vec_capacity}
 use Rattle.script.specs.declared.rows.Sort.TheVariants.{Declaration}
-use Rattle.syntax.specs.Trees.{pieces, sizes}
-use Rattle.syntax.specs.Trees.{Parts}
+use Rattle.syntax.specs.Trees.{pieces, sizes, Parts}
 use Rattle.translator.specs.Emitting.{SameLoans, functions_here, entries_here, numbers_here}
 use Rattle.translator.proofs.emitter.Emitter.declarations.Given as goal
 
