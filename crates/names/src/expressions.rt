@@ -1,14 +1,15 @@
 // The name rules of an expression and of an argument list, in a ring, since records nest.
+// How many parts there are, and from where on, differs from call to call in all rings of this crate: they make no value.
 ghost use Rattle.std.specs.Prelude.{◌≡◌, reverse};
 ghost use Rattle.script.specs.declared.rows.Sort.TheVariants.{Expression};
 ghost use Rattle.script.specs.Rows.{node_of};
-ghost use Rattle.syntax.specs.Trees.{Part};
-ghost use Rattle.syntax.specs.Trees.{Parts};
+ghost use Rattle.syntax.specs.Trees.{Part, Parts};
 ghost use Rattle.names.specs.Passes.{record_rule, checked_expression, checked_arguments};
 
 use crate::context::Context;
+use script::Record;
+use script::refusal::{Refusal, unless};
 use script::rows::NodeKind;
-use script::{Record, Refusal};
 use syntax::parts::{node_kind, part_count};
 
 impl Context<'_> {
@@ -18,7 +19,9 @@ impl Context<'_> {
             (reverse scope.now) (node_of node.kind) node at }
     {
         match node_kind(node) {
-            NodeKind::Variable | NodeKind::Assignment => self.check_use(node.a, at, scope),
+            NodeKind::Variable | NodeKind::Assignment => {
+                unless(self.is_declared(node.a, scope), Refusal::Undeclared(at))
+            }
             NodeKind::Call => self.check_call(node.a, part_count(node), at),
             _ => Ok(()),
         }
@@ -27,10 +30,10 @@ impl Context<'_> {
     // The expression at `at`: the index after it.
     #[cycle(arguments_expression)]
     pub(crate) fn expression(&self, at: usize, scope: &[u16]) -> Result<usize, Refusal>
-        requires { Part self.now.table.now at Expression }
+        requires { Part self.now.table.records.now at Expression }
         ensures { result ≡ checked_expression self.now at scope.now }
     {
-        let node = self.table[at];
+        let node = self.table.records[at];
         self.check_record(node, at, scope)?;
         self.arguments(part_count(node), at + 1, scope)
     }
@@ -38,7 +41,7 @@ impl Context<'_> {
     // `count` expressions from `at` on: the index after them.
     #[cycle(arguments_expression)]
     fn arguments(&self, count: usize, at: usize, scope: &[u16]) -> Result<usize, Refusal>
-        requires { Parts self.now.table.now at count Expression }
+        requires { Parts self.now.table.records.now at count Expression }
         ensures { result ≡ checked_arguments self.now count at scope.now }
     {
         let mut next = at;
