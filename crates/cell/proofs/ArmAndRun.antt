@@ -10,9 +10,8 @@ use Rattle.names.specs.Need.{largest_need}
 use Rattle.names.specs.Names.{◌⨟◌}
 use Rattle.code.specs.Scheme.{number_of, global_numbers, global_count}
 use Rattle.machine.specs.Machine.{Image, MachineState, Progress, running, undefined, step, proceed, run, armed}
-use Rattle.machine.specs.declared.outcome.Step.{Step}
-use Rattle.machine.specs.declared.outcome.Step.TheVariants.{Running, Over, Undefined}
-use Rattle.machine.specs.Steps.{run_at_most}
+use Rattle.machine.specs.declared.outcome.Stop.TheVariants.{Over, Undefined}
+use Rattle.machine.specs.Steps.{Told, run_at_most, end_of}
 use Rattle.machine.proofs.Runs.{run-add}
 use Rattle.machine.proofs.Budgets.{Tells, tells}
 use Rattle.agreement.specs.Agreement.{program_image, Ends}
@@ -22,7 +21,6 @@ use Rattle.cell.specs.Outcomes.{Shown, World, machine_in, counted, image_in, glo
 use Rattle.script.specs.declared.limits.Limits.{Limits}
 use Rattle.script.specs.Limits.{within_limits}
 use Rattle.script.specs.Refusals.{unless}
-use Rattle.cell.specs.Endings.{end_of}
 use Rattle.cell.specs.Outcomes.{arms, arm_rules, armed_by, run_state, ran_to, ran_by}
 use Rattle.cell.specs.declared.calls.State.{State}
 use Rattle.cell.specs.Promises.{Armed, Notes, grant, tree_run}
@@ -166,11 +164,11 @@ module _ {W : Type 0} (kind : Kind W) (holds : W → Bool) where
     abbrev noting : ℕ → Notes W
     noting k = record { loaded = n.loaded; coded = n.coded; armed = grant k n.armed }
 
-    abbrev ran : Step → ℕ → MachineState W → World W
+    abbrev ran : Told → ℕ → MachineState W → World W
     ran outcome made x = (ran_to kind holds w (record { outcome = outcome; made = made; state = x })).world
 
     abbrev still-begun :
-        (k : ℕ) (outcome : Step) (made : ℕ) (x : MachineState W) → Begun kind holds (noting k) (ran outcome made x)
+        (k : ℕ) (outcome : Told) (made : ℕ) (x : MachineState W) → Begun kind holds (noting k) (ran outcome made x)
     still-begun k outcome made x = record {
       has = record {
         code = g.begun.has.code;
@@ -192,17 +190,17 @@ module _ {W : Type 0} (kind : Kind W) (holds : W → Bool) where
     steps-counted made = ap (λ (s : ℕ). counted (s + made)) g.steps ∙ counted-more past made
 
     goes :
-        (k : ℕ) (outcome : Step) (made : ℕ) (x : MachineState W) → Tells I k (machine_in w) outcome made x
+        (k : ℕ) (outcome : Told) (made : ℕ) (x : MachineState W) → Tells I k (machine_in w) outcome made x
         → StandsIn kind holds (run_state (end_of outcome)) (noting k) (ran outcome made x)
-    goes k Running made x (a, h) = record {
-      begun = still-begun k Running made x;
+    goes k (Ok u) made x (a, h) = record {
+      begun = still-begun k (Ok u) made x;
       came = onward k ∙ h;
       steps = steps-counted made ∙ ap (λ (z : ℕ). counted (past + z)) a;
     }
-    goes k Undefined made x (l, h, u) =
+    goes k (Err Undefined) made x (l, h, u) =
         absurd (never-undefined (ends n w g.begun) (past + (made + 1)) (undefined-next made x h u))
-    goes k (Over e) made x (count, a, l, y, h, o) = record {
-      begun = still-begun k (Over e) made x;
+    goes k (Err (Over e)) made x (count, a, l, y, h, o) = record {
+      begun = still-begun k (Err (Over e)) made x;
       end = e;
       told = refl;
       count = past + count;

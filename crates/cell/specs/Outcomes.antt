@@ -19,8 +19,7 @@ use Rattle.machine.specs.declared.state.Frame.{Frame}
 use Rattle.script.specs.declared.ending.RunEnd.{RunEnd}
 use Rattle.script.specs.Refusals.{unless}
 use Rattle.machine.specs.Machine.{Image, MachineState, armed}
-use Rattle.machine.specs.Steps.{Ran, run_at_most}
-use Rattle.cell.specs.Endings.{end_of}
+use Rattle.machine.specs.Steps.{Ran, run_at_most, end_of}
 use Rattle.cell.specs.declared.calls.State.{State}
 use Rattle.cell.specs.declared.calls.State.TheVariants.{Empty, Loaded, Coded, Running, Over}
 use Rattle.cell.specs.declared.calls.Call.{Call}

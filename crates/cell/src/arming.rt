@@ -32,7 +32,7 @@ impl Cell {
             return Err(Refusal::TooFewWords(wanted));
         }
         write_literals(self.translation.globals(), words);
-        self.machine = Machine::new(self.globals(), limits.depth as usize, limits.fuel);
+        self.machine = Machine::new(self.globals(), limits);
         self.fuel = limits.fuel;
         self.steps = 0;
         self.end = None;

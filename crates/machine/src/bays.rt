@@ -49,7 +49,8 @@ impl Machine {
         ensures holds { R.Rack.holds rack.new ≡ R.Rack.holds rack.old }
         ensures loan { R.Rack.loan rack.new ≡ R.Rack.loan rack.old }
     {
-        let (named, word) = self.operands(words)?;
+        self.has_two()?;
+        let (named, word) = self.operands(words);
         let Some(slot) = named.slot() else {
             return Err(Stop::over(Ending::NoSuchBay, place));
         };

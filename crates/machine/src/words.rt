@@ -104,24 +104,31 @@ impl Machine {
         self.store_word(words, i)
     }
 
-    // The two topmost words, the upper one second.
-    pub(crate) fn operands<W: NumberKind + Copy>(&self, words: &mut [W]) -> Result<(W, W), Stop>
-        ensures operands { MatchResult result
-            (λ pair. (2 ≤ self.now.height)
-            × (pair.0 ≡ slice_index_or words.old (self.now.height - 2) (zero_word W.NumberKind.kind))
-            × (pair.1
-            ≡ slice_index_or words.old (suc (self.now.height - 2)) (zero_word W.NumberKind.kind)))
+    // Are there two words?
+    pub(crate) fn has_two(&self) -> Step
+        ensures { MatchResult result (λ _. 2 ≤ self.now.height)
             (λ stop. (stop ≡ Stop.Undefined) × (self.now.height < 2)) }
-        ensures words { words.new ≡ words.old }
     {
         if self.height < 2 {
             return Err(Stop::Undefined);
         }
+        Ok(())
+    }
+
+    // The two topmost words, the upper one second.
+    pub(crate) fn operands<W: NumberKind + Copy>(&self, words: &mut [W]) -> (W, W)
+        requires { 2 ≤ self.now.height }
+        ensures lower { result.0
+            ≡ slice_index_or words.old (self.now.height - 2) (zero_word W.NumberKind.kind) }
+        ensures upper { result.1
+            ≡ slice_index_or words.old (suc (self.now.height - 2)) (zero_word W.NumberKind.kind) }
+        ensures words { words.new ≡ words.old }
+    {
         let zero = W::literal(0);
         let mut stack = Stack::new(words, self.height);
         let second = stack.pop(zero);
         let first = stack.pop(zero);
-        Ok((first, second))
+        (first, second)
     }
 
     // Puts a word in the place of the two topmost ones.
@@ -147,7 +154,8 @@ impl Machine {
             → MakesOnWords (combine (word_image W.NumberKind.kind self.old) made)
             self.old words.old result self.new words.new }
     {
-        let (first, second) = self.operands(words)?;
+        self.has_two()?;
+        let (first, second) = self.operands(words);
         self.replace_two(words, f(first, second));
         Ok(())
     }
