@@ -39,10 +39,7 @@ impl Cell {
         ensures loan { R.Rack.loan rack.new ≡ R.Rack.loan rack.old }
     {
         // no conversion is plainer: a depth is at most 63
-        let wanted = self.words_wanted(self.machine.depth as u32);
-        if words.len() < wanted {
-            return Err(Refusal::TooFewWords(wanted));
-        }
+        self.check_words(self.machine.depth as u32, words.len())?;
         let code = self.translation.program();
         let run = self.machine.run(words, rack, code, steps);
         let end = run.end();
