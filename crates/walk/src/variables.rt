@@ -24,10 +24,7 @@ impl<'a> Walker<'a> {
         ensures { result ≡ look_up (pos 0) name (state (lent_in self.now)).names
             (state (lent_in self.now)).words }
     {
-        match self.place(name) {
-            Some(i) => self.words[i],
-            None => 0,
-        }
+        self.place(name).map_or(0, |i| self.words[i])
     }
 
     // A name's binding gets a word.
