@@ -1,5 +1,5 @@
 // A name means its newest binding.
-ghost use Rattle.std.specs.Prelude.{◌≡◌, ◌<◌, ◌≤◌, length, pos, IfSome};
+ghost use Rattle.std.specs.Prelude.{◌≡◌, ◌<◌, pos, IfSome};
 ghost use Rattle.syntax.specs.Syntax.{locate};
 ghost use Rattle.treerun.specs.TreeRun.{look_up, store, with_words};
 ghost use Rattle.walk.specs.Lent.{lent_in, state, Same, Bound};
@@ -10,7 +10,6 @@ use names::find::find;
 impl<'a> Walker<'a> {
     // The place of a name's newest binding.
     fn place(&self, name: u16) -> Option<usize>
-        requires { self.now.bound ≤ length self.now.names.now }
         ensures place { result ≡ locate name (state (lent_in self.now)).names }
         ensures below { IfSome result (λ i. i < self.now.bound) }
     {
@@ -19,8 +18,6 @@ impl<'a> Walker<'a> {
 
     // The word of a name.
     pub fn word_of(&self, name: u16) -> i32
-        requires names { self.now.bound ≤ length self.now.names.now }
-        requires words { self.now.bound ≤ length self.now.words.now }
         ensures { result ≡ look_up (pos 0) name (state (lent_in self.now)).names
             (state (lent_in self.now)).words }
     {
@@ -29,8 +26,6 @@ impl<'a> Walker<'a> {
 
     // A name's binding gets a word.
     pub fn assign(&mut self, name: u16, word: i32)
-        requires names { self.old.bound ≤ length self.old.names.now }
-        requires words { self.old.bound ≤ length self.old.words.now }
         ensures bindings { state (lent_in self.new)
             ≡ with_words (store name word (state (lent_in self.old)).names (state (lent_in self.old)).words)
             (state (lent_in self.old)) }

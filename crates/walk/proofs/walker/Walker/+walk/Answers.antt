@@ -94,7 +94,6 @@ expression-returns-in_err-word-in-BayRead-clause-ran t c =
     let f : SFits w32 c.in_ok-x-in-BayRead.x.word = search rules in
     let b = simp to_z-of_z at c.in_err-word-in-BayRead.ensures in
     refuses _ c.from_residual-in_err-word-in-BayRead.ensures.1 k.fuel (omega (arith, k.kept))
-    (omega (arith, k.kept, c.requires.room.names)) (omega (arith, k.kept, c.requires.room.words))
     (rw p.is ((by-rules (setting_in c.args.self.now)).of_bay_read _ _ _ _
     ∙ (goes_on _ _ _ k.runs ∙ reads c.args.at _
     (lent_in c.expression-in-BayRead.new.self) _ b)))
@@ -148,7 +147,6 @@ expression-returns-in_err-word-in-BayWrite-clause-ran t c =
     let d = simp to_z-of_z at c.in_err-word-in-BayWrite.ensures.bays in
     refuses _ c.from_residual-in_err-word-in-BayWrite.ensures.1 (omega (arith, k.fuel, j.fuel))
     (omega (arith, k.kept, j.kept))
-    (omega (arith, k.kept, j.kept, c.requires.room.names)) (omega (arith, k.kept, j.kept, c.requires.room.words))
     (rw p.is ((by-rules (setting_in c.args.self.now)).of_bay_write _ _ _ _ _
     ∙ (goes_on _ _ _ k.runs ∙ (goes_on _ _ _ j.runs
     ∙ writes c.args.at _ (lent_in c.expression-in-BayWrite-2.new.self) _ _ b d))))
@@ -426,11 +424,7 @@ statement-returns-in_ok-x-in-Return-clause-ran t c =
       runs = rw p.is ((by-rules (setting_in c.args.self.now)).of_give_back _ _ _ _
           ∙ goes_on _ _ _ k.runs);
       fuel = k.fuel;
-      kept = (
-        omega (arith, k.kept),
-        omega (arith, k.kept, c.requires.room.names),
-        omega (arith, k.kept, c.requires.room.words),
-      );
+      kept = omega (arith, k.kept);
       ends = tt;
     }
 
@@ -577,17 +571,12 @@ repeat-returns-clause-ran t c =
     let i = c.loop-self.invariant in
     let s = i.same in
     let p = while-ready c.requires.ready _ refl c.requires.kind in
-    let r = c.requires.ready.room in
     rw c.end_at.ensures record {
       runs = i.runs ∙ rw p.is
           ((by-rules (setting_in c.args.self.now)).of_while _ _ _ _ _
           ∙ no_fuel _ (state (lent_in c.loop-self.self)) _ (omega arith));
       fuel = i.fuel;
-      kept = (
-        omega (arith, i.bound),
-        omega (arith, i.bound, r.names),
-        omega (arith, i.bound, r.words),
-      );
+      kept = omega (arith, i.bound);
       ends = tt;
     }
 
@@ -634,8 +623,7 @@ block-returns-clause-ran t c =
     (sym c.declare.ensures.bound) in
     let x = dropped (lent_in c.args.self.now) (lent_in c.statements.new.self)
     c.args.self.now.bound refl
-    (omega (arith, k.kept)) (omega (arith, k.kept, p.names, s.names_length, c.statements.ensures.same.names_length))
-    (omega (arith, k.kept, p.words, s.words_length, c.statements.ensures.same.words_length))
+    (omega (arith, k.kept)) c.statements.new.self.names_fit c.statements.new.self.words_fit
     (omega (arith, p.names)) (omega (arith, p.words)) in
     gives _ refl
     (rw p.is ((by-rules (setting_in c.args.self.now)).of_block _ _ _ _ _
@@ -684,11 +672,7 @@ call-returns-then-opened-self-clause-ran t c =
           (λ calls s σ. statement_run (setting_in c.args.self.now) s calls σ) _ _ _
           l.is _ _ (eqb-true _ _ (rw s.depth at c.if-opened-self.true))));
       fuel = k.fuel;
-      kept = (
-        omega (arith, k.kept),
-        omega (arith, k.kept, c.requires.ready.room.names, s.names_length),
-        omega (arith, k.kept, c.requires.ready.room.words, s.words_length),
-      );
+      kept = omega (arith, k.kept);
       ends = tt;
     }
 
@@ -706,11 +690,7 @@ call-returns-then-self-eq0-clause-ran t c =
           (λ calls s σ. statement_run (setting_in c.args.self.now) s calls σ) _ _ _
           l.is _ _ (eqb-ne _ _ (rw s.depth at c.if-opened-self.false)) c.if-self-eq0.true));
       fuel = k.fuel;
-      kept = (
-        omega (arith, k.kept),
-        omega (arith, k.kept, c.requires.ready.room.names, s.names_length),
-        omega (arith, k.kept, c.requires.ready.room.words, s.words_length),
-      );
+      kept = omega (arith, k.kept);
       ends = tt;
     }
 
@@ -796,8 +776,7 @@ call-returns-clause-ran t c =
       | call-in-Ok w ↦
           let j = rw (u.table, u.depth, s.table, s.depth) at w.in-Ok.ensures.ran in
           let d = dropped lent₁ (lent_in c.statement.new.self) c.arguments.new.self.bound refl
-          (omega (arith, j.kept, e)) (omega (arith, j.kept, e, n.names, v.names_length, u.names_length))
-          (omega (arith, j.kept, e, n.words, v.words_length, u.words_length))
+          (omega (arith, j.kept, e)) c.statement.new.self.names_fit c.statement.new.self.words_fit
           (omega (arith, n.names)) (omega (arith, n.words)) in
           gives (pos 0) w.word-is
           (rw p.is (y ∙ (ap (leave_call (pos 0) υ) j.runs ∙ ap (value (pos 0)) d)))
@@ -805,7 +784,7 @@ call-returns-clause-ran t c =
       | call-in-Err-Returned w ↦
           let j = rw (u.table, u.depth, s.table, s.depth) at (recast (Returned w.in-Err-Returned.word) w.in-Err-Returned.field-0-is w.in-Err-Returned.ensures.ran) in
           let d = dropped lent₁ (lent_in c.statement.new.self) c.arguments.new.self.bound refl
-          (omega (arith, j.kept.0, e)) j.kept.1 j.kept.2 (omega (arith, n.names)) (omega (arith, n.words)) in
+          (omega (arith, j.kept, e)) c.statement.new.self.names_fit c.statement.new.self.words_fit (omega (arith, n.names)) (omega (arith, n.words)) in
           let f : SFits w32 w.in-Err-Returned.word = search rules in
           gives w.in-Err-Returned.word (w.word-is ∙ to_z-of_z w32 w.in-Err-Returned.word f)
           (rw p.is (y ∙ (ap (leave_call (pos 0) υ) j.runs ∙ ap (value w.in-Err-Returned.word) d)))
@@ -838,6 +817,6 @@ call-returns-in-Err-Ended-clause-ran t c =
     record {
       runs = rw p.is (y ∙ ap (leave_call (pos 0) υ) j.runs);
       fuel = omega (arith, j.fuel, k.fuel, c.bind.ensures.progress.fuel);
-      kept = (omega (arith, j.kept.0, k.kept, e), j.kept.1, j.kept.2);
+      kept = omega (arith, j.kept, k.kept, e);
       ends = tt;
     }
