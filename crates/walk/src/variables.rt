@@ -16,7 +16,7 @@ impl<'a> Walker<'a> {
         find(&self.names[..self.bound], name)
     }
 
-    // The word of a name.
+    // The word of a name; 0 where it has no binding, which an accepted program never asks.
     pub fn word_of(&self, name: u16) -> i32
         ensures { result ≡ look_up (pos 0) name (state (lent_in self.now)).names
             (state (lent_in self.now)).words }
