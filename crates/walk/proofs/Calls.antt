@@ -6,7 +6,7 @@ use Rattle.script.specs.declared.rows.NodeKind.TheVariants as is
 use Rattle.syntax.specs.Syntax.{function_named, name_of}
 use Rattle.syntax.specs.Trees.{tree_at, size, no_record}
 use Rattle.syntax.specs.Typed.{expression_at, statement_at, variables_at, function_of, first_parts}
-use Rattle.treerun.specs.TreeRun.{State, Outcome, value, leave_call, drop_to, bind_parameters}
+use Rattle.treerun.specs.TreeRun.{Outcome, value, leave_call, drop_to, bind_parameters}
 use Rattle.treerun.specs.Laws.{expression_run, statement_run}
 use Rattle.walk.specs.declared.walker.Walker.{Walker}
 use Rattle.walk.specs.declared.state.Valued.{Valued}
@@ -72,8 +72,8 @@ module _ {w w₁ : Walker} {opened at n f next : ℕ} {given : List ℤ} (c : Ca
   -- A fuel is spent, which leaves v; the parameters are bound, which leaves w₂.
   module _ {v w₂ : Walker} (some : 0 < w₁.fuel) (is-spent : lent_in v ≡ spent) (kept : Same w₁ v)
       (bound : state (lent_in w₂)
-          ≡ bind_parameters (map name_of (variables_at v.table.now (f + 1) (length (take n given)))) (reverse (take n given))
-          (state (lent_in v)))
+      ≡ bind_parameters (map name_of (variables_at v.table.now (f + 1) (length (take n given)))) (reverse (take n given))
+      (state (lent_in v)))
       (progress : Bound v w₂ (length (take n given))) (same₂ : Same v w₂) where
     on-table : w₂.table.now ≡ w.table.now
     on-table = same₂.table ∙ (kept.table ∙ c.same.table)
@@ -101,8 +101,8 @@ module _ {w w₁ : Walker} {opened at n f next : ℕ} {given : List ℤ} (c : Ca
         let z : w₁.fuel ≡ suc (w₁.fuel - 1) = omega arith in
         let b = rw (kept.table, c.same.table, all-given) at bound in
         rw p.is (call-runs (setting_in w) at _ _ opened _ (state (lent_in w₁)) given n (w₁.fuel - 1)
-            (function_of (tree_at w.table.now f)) _ _ (state (lent_in w₂)) c.ran.runs l.is (eqb-ne _ _ o) z
-            call-enters.body call-enters.parameters (b ∙ ap (λ (l : Lent). bind_parameters (map name_of (variables_at w.table.now (f + 1) n)) (reverse (take n given)) (state l)) is-spent))
+        (function_of (tree_at w.table.now f)) _ _ (state (lent_in w₂)) c.ran.runs l.is (eqb-ne _ _ o) z
+        call-enters.body call-enters.parameters (b ∙ ap (λ (l : Lent). bind_parameters (map name_of (variables_at w.table.now (f + 1) n)) (reverse (take n given)) (state l)) is-spent))
 
     -- The body has come to w₃.
     module _ (w₃ : Walker) where

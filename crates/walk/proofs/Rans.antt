@@ -1,5 +1,5 @@
 -- What a node has come to, from what its parts have come to.
-use Rattle.std.proofs.Common.{◌≡◌, ℕ, ◌≤◌, length, ℤ, Ok, Err, Result, sym, ap, ◌∙◌, arith}
+use Rattle.std.proofs.Common.{◌≡◌, ℕ, ◌≤◌, ℤ, Ok, Err, Result, sym, ap, ◌∙◌, arith}
 use Rattle.std.proofs.lemmas.Result.{err_from_is_err_and}
 use Rattle.std.specs.Result.{IsErrAnd}
 use Rattle.treerun.specs.TreeRun.{Outcome, value}

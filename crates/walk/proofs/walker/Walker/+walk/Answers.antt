@@ -1,23 +1,23 @@
-use Rattle.std.proofs.Common.{◌≡◌, suc, ◌+◌, ◌-◌, ◌<◌, true, false, ◌∷◌, reverse, length, get_or, take, set, ℤ, pos, sym, refl, ap, ◌∙◌, add-one, arith, w32, SFits, to_z, of_z, rules}
+use Rattle.std.proofs.Common.{◌≡◌, suc, ◌+◌, ◌-◌, true, false, ◌∷◌, reverse, length, get_or, take, set, ℤ, pos, sym, refl, ap, ◌∙◌, add-one, arith, w32, SFits, to_z, of_z, rules}
 use Rattle.std.proofs.lemmas.Int.{to_z-of_z}
 use Rattle.std.proofs.lemmas.List.{length-take-le}
 use Rattle.kinds.specs.Counter.{counter}
 use Rattle.script.specs.declared.rows.NodeKind.TheVariants as is
-use Rattle.syntax.specs.Trees.{tree_at, no_record}
-use Rattle.syntax.specs.Typed.{statements_at, function_of, node_at}
+use Rattle.syntax.specs.Trees.{no_record}
+use Rattle.syntax.specs.Typed.{node_at}
 use Rattle.syntax.proofs.Shapes.{simple-kind}
-use Rattle.treerun.specs.TreeRun.{State, value, leave_block, leave_call}
-use Rattle.treerun.specs.Laws.{statement_run, statements_run}
+use Rattle.treerun.specs.TreeRun.{value}
+use Rattle.treerun.specs.Laws.{statement_run}
 use Rattle.treerun.proofs.ByRules.{by-rules}
 use Rattle.walk.specs.declared.state.Stop.TheVariants.{Returned, Ended}
-use Rattle.walk.specs.Lent.{Lent, lent_in, state}
+use Rattle.walk.specs.Lent.{lent_in, state}
 use Rattle.walk.specs.Parts.{setting_in}
 use Rattle.walk.proofs.Bindings.{eqb-true, eqb-ne, rev-set}
 use Rattle.walk.proofs.Calls.{calling, call-enters, one-deeper, all-given, body-ready, without-return, with-return, run-ended}
 use Rattle.walk.proofs.Rans.{refuses, passes, follows, gives, recast}
 use Rattle.walk.proofs.Readies.{assign-ready, bay-read-ready, two_part_ready, bay_write_ready, call-ready, evaluate-ready, return-ready, while-ready, if-ready}
-use Rattle.walk.proofs.Readies.{first-argument, first-statement, block-ready, same-room, not-all, deeper, enters}
-use Rattle.walk.proofs.Runs.{goes_on, stops, no_fuel, block-runs, block-stops, too_deep, without-fuel, no-function, call-runs, reads, writes}
+use Rattle.walk.proofs.Readies.{first-argument, first-statement, block-ready, same-room}
+use Rattle.walk.proofs.Runs.{goes_on, stops, no_fuel, block-runs, block-stops, too_deep, without-fuel, no-function, reads, writes}
 use Rattle.walk.proofs.Runs.{test-stops, test_zero, body-stops, begins-over}
 use Rattle.walk.proofs.States.{dropped}
 use Rattle.walk.proofs.Views.{no-parts, no_other}
