@@ -1,26 +1,10 @@
 // Makes the calls of a job on a cell; with an argument it checks or walks a node table instead.
 #![tactic(auto)]
 
-mod console;
-mod listing;
-mod outline;
-mod printing;
-mod walking;
-mod wording;
-
 use anyhow::anyhow;
-use console::perform_job;
-use listing::list_code;
-use outline::outline;
-use script::check_shape;
-use std::env;
-use std::io::{BufRead, BufReader};
+use console::{check_table, perform_job, walk_table};
 use std::process::ExitCode;
-use texts::LineReader;
-use texts::job::JobReader;
-use texts::table::{TableJob, TableReader};
-use walking::walk_job;
-use wording::print_refusal;
+use std::{env, io};
 
 const HELP: &str = "aisle: standard input is a job, one call a line; # begins a comment
   rack bays N | rack occupancy N | rack rail W W ..   the first line
@@ -30,41 +14,17 @@ aisle check: standard input is a node table, three numbers a record; its shape i
 aisle walk: the same, then its code, and a walk over a bay table; bays N, fuel N, depth N and slices N may stand between records
 aisle help: this text";
 
-// Standard input, read line by line.
-fn read_input<R: LineReader>(rt: &HostRuntime, mut reader: R) -> anyhow::Result<R::Text> {
-    for line in BufReader::new(rt.alloc(), rt.stdin())?.lines(rt.alloc()) {
-        reader.take_line(line?.as_str())?;
-    }
-    Ok(reader.finish()?)
-}
-
-// Checks the table that is read, and gives it back where its shape is accepted.
-fn check(rt: &HostRuntime) -> anyhow::Result<Option<TableJob>> {
-    let job = read_input(rt, TableReader::new(rt.alloc()))?;
-    if let Err(refusal) = check_shape(&job.table) {
-        print_refusal(rt, refusal)?;
-        return Ok(None);
-    }
-    println!(rt; "accepted, records {}", job.table.len())?;
-    rt.print(outline(rt.alloc(), &job.table)?.as_str())?;
-    Ok(Some(job))
-}
-
-fn check_and_walk(rt: &HostRuntime) -> anyhow::Result<()> {
-    if let Some(job) = check(rt)? {
-        list_code(rt, &job.table)?;
-        walk_job(rt, &job)?;
-    }
-    Ok(())
+fn input(rt: &HostRuntime) -> io::Result<String> {
+    io::read_to_string(rt.alloc(), rt.stdin())
 }
 
 fn run(rt: &HostRuntime) -> anyhow::Result<()> {
     let Some(word) = env::args(rt)?.nth(1) else {
-        return perform_job(rt, read_input(rt, JobReader::new(rt.alloc()))?);
+        return perform_job(rt, &input(rt)?);
     };
     match word.as_str() {
-        "check" => check(rt).map(|_| ()),
-        "walk" => check_and_walk(rt),
+        "check" => check_table(rt, &input(rt)?),
+        "walk" => walk_table(rt, &input(rt)?),
         "help" => Ok(rt.println(HELP)?),
         _ => Err(anyhow!("the argument is check, walk or help, or there is none")),
     }

@@ -43,6 +43,7 @@ pub enum RackChoice {
     Rail(Vec<f64>),
 }
 
+// One call. It owns what the cell's `Call` borrows, as a `String` owns what a `&str` borrows.
 #[derive(PartialEq, Eq, Debug, Drop)]
 pub enum CallLine {
     Load(Vec<Record>),
@@ -68,7 +69,6 @@ pub struct JobReader {
     rack: Option<RackChoice>,
     words: Option<usize>,
     calls: Vec<CallLine>,
-    line: usize,
 }
 
 impl JobReader {
@@ -78,7 +78,6 @@ impl JobReader {
             rack: None,
             words: None,
             calls: Vec::new(heap),
-            line: 0,
         }
     }
 }
@@ -89,9 +88,8 @@ impl LineReader for JobReader {
     type Problem = JobProblem;
 
     // A line without words says nothing.
-    fn take_line(&mut self, text: &str) -> Result<(), JobError> {
-        self.line = self.line.saturating_add(1);
-        let Some(line) = Line::of(self.line, text) else {
+    fn take_line(&mut self, number: usize, text: &str) -> Result<(), JobError> {
+        let Some(line) = Line::of(number, text) else {
             return Ok(());
         };
         if self.rack.is_none() {
@@ -104,10 +102,9 @@ impl LineReader for JobReader {
         Ok(())
     }
 
-    fn finish(self) -> Result<Job, JobError> {
+    fn finish(self) -> Result<Job, JobProblem> {
         let (Some(rack), Some(words)) = (self.rack, self.words) else {
-            // an empty text lacks its first line
-            return Err(fault(self.line.max(1), JobProblem::TooShort));
+            return Err(JobProblem::TooShort);
         };
         Ok(Job {
             rack,
@@ -140,10 +137,10 @@ impl<'a> Line<'a> {
 
     // The line must end here.
     fn end(mut self, otherwise: JobProblem) -> Result<(), JobError> {
-        match self.rest.next() {
-            None => Ok(()),
-            Some(_) => Err(fault(self.number, otherwise)),
+        if self.rest.next().is_some() {
+            return Err(fault(self.number, otherwise));
         }
+        Ok(())
     }
 
     fn take_number(&mut self) -> Result<u32, JobError> {

@@ -1,5 +1,5 @@
 // Reading a text line by line.
-use crate::error::{TextError, TextProblem};
+use crate::error::{TextError, TextProblem, fault};
 
 // What reads the texts of one sort, and keeps what was read so far.
 pub trait LineReader: Drop {
@@ -7,11 +7,11 @@ pub trait LineReader: Drop {
 
     type Problem: TextProblem;
 
-    // One line of the text, without its end.
-    fn take_line(&mut self, text: &str) -> Result<(), TextError<Self::Problem>>;
+    // One line of the text, without its end. Lines are counted from 1.
+    fn take_line(&mut self, number: usize, text: &str) -> Result<(), TextError<Self::Problem>>;
 
-    // What was read, where the text may end here.
-    fn finish(self) -> Result<Self::Text, TextError<Self::Problem>>;
+    // What was read, or what it still lacks where the text ends here.
+    fn finish(self) -> Result<Self::Text, Self::Problem>;
 }
 
 // A whole text.
@@ -19,10 +19,13 @@ pub fn read_text<R: LineReader>(
     mut reader: R,
     text: &str,
 ) -> Result<R::Text, TextError<R::Problem>> {
-    for line in text.lines() {
-        reader.take_line(line)?;
+    // what an empty text lacks, its first line lacks
+    let mut last = 1;
+    for (index, line) in text.lines().enumerate() {
+        last = index + 1;
+        reader.take_line(last, line)?;
     }
-    reader.finish()
+    reader.finish().map_err(|problem| fault(last, problem))
 }
 
 // What stands before a `#`.

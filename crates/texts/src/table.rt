@@ -105,13 +105,27 @@ pub struct TableJob {
     pub settings: Settings,
 }
 
+// A whole number in the range of its type.
+fn number<N: TryFrom<i64>>(
+    line: usize,
+    word: &str,
+    out_of_range: TableProblem,
+) -> Result<N, TableError>
+where
+    N::Error: Drop,
+{
+    let number = word
+        .parse::<i64>()
+        .map_err(|_| fault(line, TableProblem::NotANumber))?;
+    N::try_from(number).map_err(|_| fault(line, out_of_range))
+}
+
 // The records read so far, the settings, and what is begun.
 #[derive(Drop)]
 pub struct TableReader {
     records: Vec<Record>,
     settings: Settings,
     begun: Begun,
-    line: usize,
 }
 
 impl TableReader {
@@ -120,40 +134,25 @@ impl TableReader {
             records: Vec::new(heap),
             settings: DEFAULTS,
             begun: Begun::Nothing,
-            line: 0,
         }
     }
 
-    fn number<N: TryFrom<i64>>(
-        &self,
-        word: &str,
-        out_of_range: TableProblem,
-    ) -> Result<N, TableError>
-    where
-        N::Error: Drop,
-    {
-        let number = word
-            .parse::<i64>()
-            .map_err(|_| fault(self.line, TableProblem::NotANumber))?;
-        N::try_from(number).map_err(|_| fault(self.line, out_of_range))
-    }
-
-    fn take_word(&mut self, word: &str) -> Result<(), TableError> {
+    fn take_word(&mut self, line: usize, word: &str) -> Result<(), TableError> {
         self.begun = match self.begun {
             Begun::Nothing => match word.parse() {
                 Ok(setting) => Begun::Setting(setting),
-                Err(NoSetting) => Begun::Kind(self.number(word, TableProblem::KindRange)?),
+                Err(NoSetting) => Begun::Kind(number(line, word, TableProblem::KindRange)?),
             },
             Begun::Setting(setting) => {
-                let value = self.number(word, TableProblem::SettingRange)?;
+                let value = number(line, word, TableProblem::SettingRange)?;
                 self.settings.set(setting, value);
                 Begun::Nothing
             }
             Begun::Kind(kind) => {
-                Begun::KindAndName(kind, self.number(word, TableProblem::NameRange)?)
+                Begun::KindAndName(kind, number(line, word, TableProblem::NameRange)?)
             }
             Begun::KindAndName(kind, a) => {
-                let v = self.number(word, TableProblem::ValueRange)?;
+                let v = number(line, word, TableProblem::ValueRange)?;
                 self.records.push(Record { kind, a, v })?;
                 Begun::Nothing
             }
@@ -167,18 +166,17 @@ impl LineReader for TableReader {
 
     type Problem = TableProblem;
 
-    fn take_line(&mut self, text: &str) -> Result<(), TableError> {
-        self.line = self.line.saturating_add(1);
+    fn take_line(&mut self, number: usize, text: &str) -> Result<(), TableError> {
         for word in without_comment(text).split_whitespace() {
-            self.take_word(word)?;
+            self.take_word(number, word)?;
         }
         Ok(())
     }
 
     // The text must not end within a record or a setting.
-    fn finish(self) -> Result<TableJob, TableError> {
+    fn finish(self) -> Result<TableJob, TableProblem> {
         let Begun::Nothing = self.begun else {
-            return Err(fault(self.line, TableProblem::Incomplete));
+            return Err(TableProblem::Incomplete);
         };
         Ok(TableJob {
             table: self.records,

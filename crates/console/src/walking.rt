@@ -7,7 +7,7 @@ use std::io;
 use texts::table::{Settings, TableJob};
 use walk::{Report, walk};
 
-fn print_report(rt: &HostRuntime, report: Report) -> io::Result<()> {
+fn print_report(rt: &impl Print, report: Report) -> io::Result<()> {
     println!(rt; "{}", Numbers(report.end))?;
     println!(rt; "{}", Ended(report.end))?;
     if let Some(word) = report.answer {
@@ -16,7 +16,7 @@ fn print_report(rt: &HostRuntime, report: Report) -> io::Result<()> {
     println!(rt; "ticks {}", report.ticks)
 }
 
-pub fn walk_job(rt: &HostRuntime, job: &TableJob) -> anyhow::Result<()> {
+pub fn walk_job(rt: &(impl Print + AllocGlobal), job: &TableJob) -> anyhow::Result<()> {
     let Settings {
         bays,
         limits,

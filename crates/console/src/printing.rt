@@ -6,7 +6,7 @@ use std::{fmt, io};
 
 // An empty list prints its name alone.
 pub fn print_list<T: fmt::Display + Drop, I: Iterator<Item = T> + Drop>(
-    rt: &HostRuntime,
+    rt: &impl Print,
     name: &str,
     words: I,
 ) -> io::Result<()>
@@ -21,7 +21,7 @@ pub fn print_list<T: fmt::Display + Drop, I: Iterator<Item = T> + Drop>(
 }
 
 pub fn print_bays<W: fmt::Display + Drop, R: Rack<Word = W>>(
-    rt: &HostRuntime,
+    rt: &impl Print,
     rack: &R,
 ) -> io::Result<()> {
     let bays = (0..rack.length()).filter_map(|slot| rack.read(slot));

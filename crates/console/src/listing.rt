@@ -38,7 +38,7 @@ impl fmt::Display for Listed {
     }
 }
 
-pub fn print_code(rt: &HostRuntime, code: &[Instruction]) -> io::Result<()> {
+pub fn print_code(rt: &impl Print, code: &[Instruction]) -> io::Result<()> {
     for (index, instruction) in code.iter().enumerate() {
         println!(rt; "code {index}: {}", Listed(*instruction))?;
     }
@@ -46,7 +46,7 @@ pub fn print_code(rt: &HostRuntime, code: &[Instruction]) -> io::Result<()> {
 }
 
 // Prints nothing for a table that is refused: the walk tells why.
-pub fn list_code(rt: &HostRuntime, table: &[Record]) -> anyhow::Result<()> {
+pub fn list_code(rt: &(impl Print + AllocGlobal), table: &[Record]) -> anyhow::Result<()> {
     let mut translation = Translation::new(rt.alloc())?;
     if translation.translate(table).is_err() {
         return Ok(());

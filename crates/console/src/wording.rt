@@ -99,7 +99,7 @@ impl fmt::Display for Explained {
     }
 }
 
-pub fn print_refusal(rt: &HostRuntime, refusal: Refusal) -> anyhow::Result<()> {
+pub fn print_refusal(rt: &impl Print, refusal: Refusal) -> anyhow::Result<()> {
     println!(rt; "{}", Numbers(refusal))?;
     println!(rt; "{}", Explained(refusal))?;
     Ok(())

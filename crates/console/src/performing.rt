@@ -1,4 +1,4 @@
-// The console: makes a job's calls on an unused cell, and prints the answers and what is then held.
+// Makes a job's calls on an unused cell, and prints the answers and what is then held.
 use crate::listing::print_code;
 use crate::printing::{print_bays, print_list};
 use crate::wording::{Ended, Explained, Numbers};
@@ -32,7 +32,11 @@ fn name_of(line: &CallLine) -> &'static str {
 }
 
 // The answer on standard output; a refusal and an ending also as a sentence on standard error.
-fn print_answer(rt: &HostRuntime, name: &str, answer: Result<Answer, Refusal>) -> io::Result<()> {
+fn print_answer(
+    rt: &(impl Print + Eprint),
+    name: &str,
+    answer: Result<Answer, Refusal>,
+) -> io::Result<()> {
     match answer {
         Ok(Answer::Taken) => println!(rt; "{name}: taken"),
         Ok(Answer::Paused) => println!(rt; "{name}: paused"),
@@ -60,7 +64,7 @@ fn state_name(state: State) -> &'static str {
 
 // Makes the calls, and prints each answer.
 fn make_calls<R: Rack>(
-    rt: &HostRuntime,
+    rt: &(impl Print + Eprint + AllocGlobal),
     lines: &[CallLine],
     words: &mut [R::Word],
     rack: &mut R,
@@ -74,7 +78,7 @@ fn make_calls<R: Rack>(
     Ok(cell)
 }
 
-fn print_cell(rt: &HostRuntime, cell: &Cell) -> io::Result<()> {
+fn print_cell(rt: &impl Print, cell: &Cell) -> io::Result<()> {
     println!(rt; "state {}", state_name(cell.state()))?;
     print_code(rt, cell.code())?;
     println!(rt; "ticks {}", cell.ticks())?;
@@ -82,7 +86,7 @@ fn print_cell(rt: &HostRuntime, cell: &Cell) -> io::Result<()> {
 }
 
 // Ending and answer in Over, and the globals where there is a run.
-fn print_run<W: fmt::Display>(rt: &HostRuntime, cell: &Cell, words: &[W]) -> io::Result<()> {
+fn print_run<W: fmt::Display>(rt: &impl Print, cell: &Cell, words: &[W]) -> io::Result<()> {
     let globals = cell.globals();
     if let Some(end) = cell.end() {
         println!(rt; "{}", Numbers(end))?;
@@ -100,7 +104,7 @@ fn print_run<W: fmt::Display>(rt: &HostRuntime, cell: &Cell, words: &[W]) -> io:
 
 // Makes the calls over this rack and so many words, and prints what is then held.
 fn perform<W: NumberKind + Copy + fmt::Display, R: Rack<Word = W>>(
-    rt: &HostRuntime,
+    rt: &(impl Print + Eprint + AllocGlobal),
     lines: &[CallLine],
     count: usize,
     rack: &mut R,
@@ -114,7 +118,7 @@ fn perform<W: NumberKind + Copy + fmt::Display, R: Rack<Word = W>>(
     Ok(())
 }
 
-pub fn perform_job(rt: &HostRuntime, job: Job) -> anyhow::Result<()> {
+pub fn perform_job(rt: &(impl Print + Eprint + AllocGlobal), job: Job) -> anyhow::Result<()> {
     let Job { rack, words, calls } = job;
     match rack {
         RackChoice::Bays(count) => perform(rt, &calls, words, &mut BayTable::new(count)),
