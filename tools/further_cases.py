@@ -296,7 +296,14 @@ def limit_cases(cases):
         ("a largest fuel and depth", "fuel 4294967295 depth 4294967295 slices 1"),
     ]:
         cases.table("walk", f"refused, {name}", END_BAY, settings)
-    cases.table("walk", "slices that just suffice", END_BAY, "slices 193")
+    cases.table("walk", "limits, slices that just suffice", END_BAY, "slices 193")
+    cases.table("walk", "limits, the fuel unless it is set", COUNTING)
+    for top in (62, 63):
+        table = program(TRIANGLE, give(call(0, number(top))))
+        cases.table("walk", f"limits, calls nested to {top + 1} at the depth unless it is set", table)
+    largest = program(*locals_from(0, 128), block(block(locals=locals_from(191, 228)), locals=locals_from(128, 191)))
+    cases.table("walk", "limits, the most slices that a table can want", largest)
+    cases.table("walk", "limits, one slice less", largest, "slices 6527")
 
 
 def rack_cases(cases):
