@@ -7,7 +7,7 @@ use Rattle.script.specs.declared.refusal.Refusal.{Refusal}
 use Rattle.cell.specs.declared.calls.Call.{Call}
 use Rattle.cell.specs.declared.calls.Answer.{Answer}
 use Rattle.cell.specs.Outcomes.{World, answer, answers, outcome, outcomes}
-use Rattle.cell.specs.Promises.{Kept, notes_from, nothing, Made, Performed}
+use Rattle.cell.specs.Promises.{KeptFrom, Made, Performed}
 use Rattle.cell.proofs.Keeping.{promises}
 
 module _ {W : Type 0} (kind : Kind W) (holds : W → Bool) where
@@ -74,6 +74,6 @@ module _ {W : Type 0} (kind : Kind W) (holds : W → Bool) where
         answers_so = h.answers_so ∙ ap (λ (cs : List Call). answers kind holds before cs) (take_all i calls l);
         leaves = leaves;
         keeps = λ unused.
-            subst (λ (w : World W). Kept kind holds (notes_from kind holds nothing before calls) w) (sym leaves)
+            subst (λ (w : World W). KeptFrom kind holds before calls w) (sym leaves)
             (promises kind holds before unused calls);
       }

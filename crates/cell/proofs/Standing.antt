@@ -1,6 +1,7 @@
 -- What stands between two calls, by the cell's state: how the notes of the calls made and the machine hang together.
-use Rattle.std.proofs.Common.{◌≡◌, ℕ, suc, ◌+◌, ◌*◌, ◌≤◌, Bool, List, length, Some, None}
+use Rattle.std.proofs.Common.{◌≡◌, ℕ, suc, ◌+◌, ◌*◌, ◌≤◌, Bool, List, length, Some, None, Ok}
 use Rattle.kinds.specs.Kinds.{Kind}
+use Rattle.script.specs.Shape.{shape}
 use Rattle.syntax.specs.Syntax.{Program}
 use Rattle.syntax.specs.Typed.{program_of}
 use Rattle.names.specs.Need.{largest_need}
@@ -14,13 +15,14 @@ use Rattle.cell.specs.declared.calls.State.TheVariants.{Empty, Loaded, Coded, Ru
 use Rattle.cell.specs.Outcomes.{Shown, World, machine_in, counted}
 use Rattle.cell.specs.Promises.{Armed, Notes}
 
--- The cell has the code of a program whose names are in order.
+-- The cell has the code of a program whose names are in order, made of a table of at most 1,024 records.
 pub record HasCode (p : Program) (s : Shown) : Type 0 where
   pub code : s.code ≡ program_code p
   pub entries : s.entries ≡ function_entries p
   pub numbers : s.numbers ≡ global_numbers p
   pub need : s.need ≡ largest_need p
   pub named : WellNamed p
+  pub short : length (program_code p) ≤ 4096
 
 module _ {W : Type 0} (kind : Kind W) (holds : W → Bool) where
   -- The state just after an arm, over the words it was lent.
@@ -35,6 +37,7 @@ module _ {W : Type 0} (kind : Kind W) (holds : W → Bool) where
     pub depth : w.cell.registers.depth ≡ arm.depth
     pub globals : w.cell.registers.globals ≡ global_count (program_of n.coded)
     pub fuel : w.cell.fuel ≡ arm.fuel
+    pub little : arm.fuel ≤ 1000000
     pub words : List W
     pub room :
         global_count (program_of n.coded) + (arm.depth + 1) * largest_need (program_of n.coded) ≤ length words
@@ -46,29 +49,31 @@ module _ {W : Type 0} (kind : Kind W) (holds : W → Bool) where
   start_of {n} b = start (program_of n.coded) b.arm b.words
 
   -- It has made all steps granted, and still runs.
-  pub record GoesOn (n : Notes W) (w : World W) : Type 0 where
+  pub record GoesOn (made : ℕ) (n : Notes W) (w : World W) : Type 0 where
     pub begun : Begun n w
+    pub all : made ≡ begun.arm.granted
     pub came : run (image_of begun) begun.arm.granted (start_of begun) ≡ running (machine_in w)
     pub steps : w.cell.steps ≡ counted begun.arm.granted
 
   -- It has ended: after some steps the machine still ran, and the next one ended the run.
-  pub record HasEnded (n : Notes W) (w : World W) : Type 0 where
+  pub record HasEnded (made : ℕ) (n : Notes W) (w : World W) : Type 0 where
     pub begun : Begun n w
     pub end : RunEnd
     pub told : w.cell.end ≡ Some end
     pub count : ℕ
+    pub all : made ≡ suc count
     pub last : MachineState W
     pub came : run (image_of begun) count (start_of begun) ≡ running last
     pub ended : run (image_of begun) (suc count) (start_of begun) ≡ over end.ending end.place (machine_in w)
     pub steps : w.cell.steps ≡ counted (suc count)
 
-  -- By the state.
-  abbrev pub StandsIn : State → Notes W → World W → Type 0
-  StandsIn Empty n w = n.armed ≡ None
-  StandsIn Loaded n w = (w.cell.table ≡ n.loaded) × (n.armed ≡ None)
-  StandsIn Coded n w = HasCode (program_of n.coded) w.cell × (n.armed ≡ None)
-  StandsIn Running n w = GoesOn n w
-  StandsIn Over n w = HasEnded n w
+  -- By the state, with the steps made since the last arm taken.
+  abbrev pub StandsIn : State → ℕ → Notes W → World W → Type 0
+  StandsIn Empty made n w = n.armed ≡ None
+  StandsIn Loaded made n w = (w.cell.table ≡ n.loaded) × (n.armed ≡ None) × (shape w.cell.table ≡ Ok tt)
+  StandsIn Coded made n w = HasCode (program_of n.coded) w.cell × (n.armed ≡ None)
+  StandsIn Running made n w = GoesOn made n w
+  StandsIn Over made n w = HasEnded made n w
 
-  abbrev pub Stands : Notes W → World W → Type 0
-  Stands n w = StandsIn w.cell.state n w
+  abbrev pub Stands : ℕ → Notes W → World W → Type 0
+  Stands made n w = StandsIn w.cell.state made n w

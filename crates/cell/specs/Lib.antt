@@ -1,5 +1,4 @@
 pub mod Accepted
-pub mod Endings
 pub mod Outcomes
 pub mod Showing
 pub mod Promises

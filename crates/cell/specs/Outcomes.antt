@@ -4,22 +4,22 @@ use Rattle.kinds.specs.Kinds.{Kind}
 use Rattle.script.specs.declared.record.Record.{Record}
 use Rattle.script.specs.declared.refusal.Refusal.{Refusal}
 use Rattle.script.specs.declared.refusal.Refusal.TheVariants.{FuelOrDepth, TooFewWords, WrongState}
-use Rattle.script.specs.Limits.{within_limits}
+use Rattle.script.specs.Limits.{within_limits, words_wanted as words_of}
 use Rattle.script.specs.Shape.{shape}
 use Rattle.script.specs.declared.limits.Limits.{Limits}
 use Rattle.syntax.specs.Syntax.{Program}
 use Rattle.syntax.specs.Typed.{program_of}
 use Rattle.names.specs.Need.{largest_need}
-use Rattle.names.specs.Names.{name_rules, unless, ◌⨟◌}
+use Rattle.names.specs.Names.{name_rules, ◌⨟◌}
 use Rattle.names.specs.Passes.{outcome as provided}
 use Rattle.code.specs.declared.instruction.Instruction.{Instruction}
 use Rattle.code.specs.declared.instruction.FunctionEntry.{FunctionEntry}
 use Rattle.code.specs.Scheme.{program_code, function_entries, global_numbers}
 use Rattle.machine.specs.declared.state.Frame.{Frame}
 use Rattle.script.specs.declared.ending.RunEnd.{RunEnd}
+use Rattle.script.specs.Refusals.{unless}
 use Rattle.machine.specs.Machine.{Image, MachineState, armed}
-use Rattle.machine.specs.Steps.{Ran, run_at_most}
-use Rattle.cell.specs.Endings.{end_of}
+use Rattle.machine.specs.Steps.{Ran, run_at_most, end_of}
 use Rattle.cell.specs.declared.calls.State.{State}
 use Rattle.cell.specs.declared.calls.State.TheVariants.{Empty, Loaded, Coded, Running, Over}
 use Rattle.cell.specs.declared.calls.Call.{Call}
@@ -89,7 +89,7 @@ pub record World (W : Type 0) : Type 0 where
 
 -- ---- the questions
 
--- A number that only a run which is going on or has ended has; 0 elsewhere.
+-- A number that only a run which is going on or has ended has; elsewhere there is nothing to tell, and it is 0.
 abbrev pub in_run : State → ℕ → ℕ
 in_run Empty n = 0
 in_run Loaded n = 0
@@ -131,7 +131,7 @@ abbrev pub globals_told : Shown → ℕ
 globals_told s = length s.numbers
 
 abbrev pub words_wanted : ℕ → Shown → ℕ
-words_wanted depth s = globals_told s + (depth + 1) * s.need
+words_wanted depth s = words_of (globals_told s) s.need depth
 
 -- ---- the machine in the cell
 
@@ -332,10 +332,13 @@ module _ {W : Type 0} (kind : Kind W) (holds : W → Bool) where
       (counted (w.cell.steps + r.made)) end w.cell)
       r.state
 
-  abbrev pub ran_by : ℕ → World W → Effect W
-  ran_by steps w =
+  abbrev pub ran_of : ℕ → World W → Ran W
+  ran_of steps w =
       let before = w.cell.registers in
-      ran_to w (run_at_most (image_in kind holds before.depth before.globals w.cell) steps (machine_in w))
+      run_at_most (image_in kind holds before.depth before.globals w.cell) steps (machine_in w)
+
+  abbrev pub ran_by : ℕ → World W → Effect W
+  ran_by steps w = ran_to w (ran_of steps w)
 
   -- What a call does in a state, by both together: its rules, and what it does where they are met.
   abbrev pub effect : State → Call → World W → Result (Effect W) Refusal

@@ -1,5 +1,5 @@
 -- What is promised of every list of calls, made from an unused cell on.
-use Rattle.std.specs.Prelude.{◌≡◌, ℕ, ◌+◌, ◌*◌, ◌≤◌, Bool, List, [], ◌∷◌, length, take, Some, None, Ok, Err, Option, Result, slice_index_or}
+use Rattle.std.specs.Prelude.{◌≡◌, ℕ, ◌+◌, ◌-◌, ◌*◌, ◌^◌, ◌<◌, ◌≤◌, Bool, List, [], ◌∷◌, length, take, Some, None, Ok, Err, Option, Result, slice_index_or}
 use Rattle.kinds.specs.Kinds.{Kind}
 use Rattle.kinds.specs.Words.{zero_word}
 use Rattle.script.specs.declared.record.Record.{Record}
@@ -12,7 +12,7 @@ use Rattle.cell.specs.declared.calls.State.TheVariants.{Empty, Over}
 use Rattle.cell.specs.declared.calls.Call.{Call}
 use Rattle.cell.specs.declared.calls.Call.TheVariants.{Load, Compile, Arm, Run, Stop}
 use Rattle.cell.specs.declared.calls.Answer.{Answer}
-use Rattle.cell.specs.Outcomes.{World, answer, answers, outcome, outcomes, code_told, globals_told, ticks_told, steps_told, end_told}
+use Rattle.cell.specs.Outcomes.{World, answer, answers, outcome, outcomes, ran_of, in_run, code_told, globals_told, ticks_told, steps_told, end_told}
 
 -- ---- what is noted of the calls and their answers, without a look into the cell
 
@@ -95,11 +95,40 @@ module _ {W : Type 0} (kind : Kind W) (holds : W → Bool) where
         (a : Armed W) → n.armed ≡ Some a → (a.fuel + 1) * length (code_told w.cell) ≤ a.granted
         → w.cell.state ≡ Over
 
-  -- Whatever words and bays an unused cell is lent, every list of calls keeps the promises.
+  -- How many steps have been made since the last arm taken, once a call is taken too: a run adds those that the
+  -- machine makes of it.
+  abbrev pub made_by : World W → Call → ℕ → ℕ
+  made_by w (Load table) made = made
+  made_by w Compile made = made
+  made_by w (Arm limits) made = 0
+  made_by w (Run steps) made = made + (ran_of kind holds steps w).made
+  made_by w Stop made = made
+
+  abbrev pub made_after : World W → Call → Result Answer Refusal → ℕ → ℕ
+  made_after w c (Ok a) made = made_by w c made
+  made_after w c (Err e) made = made
+
+  -- The same of calls that are made one after another. No number is too large for it.
+  abbrev pub made_from : ℕ → World W → List Call → ℕ
+  made_from made w [] = made
+  made_from made w (c ∷ calls) =
+      made_from (made_after w c (answer kind holds w c) made) (outcome kind holds w c) calls
+
+  -- The steps told of a run are those made since its arm, so the count never stays at the largest number of 32 bits:
+  -- it is below that.
+  pub record Counted (made : ℕ) (w : World W) : Type 0 where
+    pub all_are_told : steps_told w.cell ≡ in_run w.cell.state made
+    pub below_the_largest : steps_told w.cell < 2 ^ 32 - 1
+
+  -- What a list of calls made on an unused cell leaves, whatever words and bays it is lent, keeps the promises.
+  pub record KeptFrom (before : World W) (calls : List Call) (after : World W) : Type 0 where
+    pub kept : Kept (notes_from nothing before calls) after
+    pub counted : Counted (made_from 0 before calls) after
+
+  -- Every list of calls keeps them.
   abbrev pub Promises : Type 0
   Promises =
-      (w : World W) → w.cell.state ≡ Empty → (calls : List Call)
-      → Kept (notes_from nothing w calls) (outcomes kind holds w calls)
+      (w : World W) → w.cell.state ≡ Empty → (calls : List Call) → KeptFrom w calls (outcomes kind holds w calls)
 
   -- ---- what is said of a call, and of a list of calls, that were made
 
@@ -114,4 +143,4 @@ module _ {W : Type 0} (kind : Kind W) (holds : W → Bool) where
       : Type 0 where
     pub answers_so : given ≡ answers kind holds before calls
     pub leaves : after ≡ outcomes kind holds before calls
-    pub keeps : before.cell.state ≡ Empty → Kept (notes_from nothing before calls) after
+    pub keeps : before.cell.state ≡ Empty → KeptFrom before calls after

@@ -27,12 +27,9 @@ impl Cell {
             words.old }
     {
         limits.check()?;
-        let wanted = self.words_wanted(limits.depth);
-        if words.len() < wanted {
-            return Err(Refusal::TooFewWords(wanted));
-        }
+        self.check_words(limits.depth, words.len())?;
         write_literals(self.translation.globals(), words);
-        self.machine = Machine::new(self.globals(), limits.depth as usize, limits.fuel);
+        self.machine = Machine::new(self.globals(), limits);
         self.fuel = limits.fuel;
         self.steps = 0;
         self.end = None;

@@ -1,12 +1,13 @@
 // What a cell is asked.
 ghost use Rattle.std.specs.Prelude.{◌≡◌};
-ghost use Rattle.cell.specs.Outcomes.{code_told, ticks_told, steps_told, end_told, globals_told, words_wanted};
+ghost use Rattle.cell.specs.Outcomes.{code_told, ticks_told, steps_told, end_told, globals_told, words_wanted, words_suffice};
 ghost use Rattle.cell.specs.Showing.{shown};
 
 use crate::calls::State;
 use crate::memory::Cell;
 use code::instruction::Instruction;
-use script::RunEnd;
+use script::refusal::unless;
+use script::{Limits, Refusal, RunEnd};
 
 impl Cell {
     pub fn state(&self) -> State
@@ -25,7 +26,7 @@ impl Cell {
         }
     }
 
-    // The fuel spent since the last arm, in Running and Over.
+    // The fuel spent since the last arm, in Running and Over; outside a run there is nothing to tell, and it is 0.
     pub fn ticks(&self) -> u32
         ensures { result ≡ ticks_told (shown self.now) }
     {
@@ -35,7 +36,7 @@ impl Cell {
         }
     }
 
-    // The instructions made since the last arm, in Running and Over.
+    // The instructions made since the last arm, in Running and Over; outside a run there is nothing to tell, and it is 0.
     pub fn steps(&self) -> u32
         ensures { result ≡ steps_told (shown self.now) }
     {
@@ -66,6 +67,14 @@ impl Cell {
     pub fn words_wanted(&self, depth: u32) -> usize
         ensures { result ≡ words_wanted depth (shown self.now) }
     {
-        self.globals() + (depth as usize + 1) * self.need
+        Limits { fuel: 0, depth }.words_wanted(self.globals(), self.need)
+    }
+
+    // Does so long a store suffice for a run of this depth?
+    pub(crate) fn check_words(&self, depth: u32, lent: usize) -> Result<(), Refusal>
+        ensures { result ≡ words_suffice (words_wanted depth (shown self.now)) lent }
+    {
+        let wanted = self.words_wanted(depth);
+        unless(lent >= wanted, Refusal::TooFewWords(wanted))
     }
 }

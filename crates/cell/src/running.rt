@@ -2,25 +2,14 @@
 ghost use Rattle.std.specs.Prelude.{◌≡◌};
 ghost use Rattle.cell.specs.declared.calls.Call.TheVariants.{Run};
 ghost use Rattle.cell.specs.declared.calls.State.TheVariants.{Running};
-ghost use Rattle.cell.specs.Endings.{end_of};
 ghost use Rattle.cell.specs.Outcomes.{run_answer, run_state};
 ghost use Rattle.cell.specs.Promises.{Made};
 ghost use Rattle.cell.specs.Showing.{world_in};
 
 use crate::calls::{Answer, State};
 use crate::memory::Cell;
-use machine::outcome::Step;
 use racks::Rack;
 use script::{Refusal, RunEnd};
-
-fn end_of(outcome: Step) -> Option<RunEnd>
-    ensures { result ≡ end_of outcome }
-{
-    match outcome {
-        Step::Over(end) => Some(end),
-        Step::Running | Step::Undefined => None,
-    }
-}
 
 fn answer_to(end: Option<RunEnd>) -> Answer
     ensures { result ≡ run_answer end }
@@ -50,13 +39,10 @@ impl Cell {
         ensures loan { R.Rack.loan rack.new ≡ R.Rack.loan rack.old }
     {
         // no conversion is plainer: a depth is at most 63
-        let wanted = self.words_wanted(self.machine.depth as u32);
-        if words.len() < wanted {
-            return Err(Refusal::TooFewWords(wanted));
-        }
+        self.check_words(self.machine.depth as u32, words.len())?;
         let code = self.translation.program();
         let run = self.machine.run(words, rack, code, steps);
-        let end = end_of(run.outcome);
+        let end = run.end();
         self.steps = self.steps.saturating_add(run.made);
         self.end = end;
         self.state = state_after(end);

@@ -3,6 +3,7 @@ use racks::{BayTable, Rack};
 use script::examples::END_BAY;
 use script::{Ending, Limits, Refusal, RunEnd};
 use std::alloc::{AllocError, Global};
+use std::process::Abort;
 
 const LIMITS: Limits = Limits { fuel: 8, depth: 1 };
 
@@ -14,8 +15,9 @@ const WAY: [Call<'static>; 4] = [
     Call::Run(1000),
 ];
 
-// A cell after so many calls of the way, each of which was taken.
+// A cell after so many calls of the way, each of which is taken.
 fn cell_after(
+    rt: &impl Abort,
     heap: Global,
     calls: usize,
     words: &mut [i32],
@@ -23,16 +25,22 @@ fn cell_after(
 ) -> Result<Cell, AllocError> {
     let mut cell = Cell::new(heap)?;
     for call in WAY.iter().take(calls) {
-        let _ = cell.take(words, rack, *call);
+        let answer = cell.take(words, rack, *call);
+        assert!(rt; answer.is_ok(), "{answer:?}");
     }
     Ok(cell)
 }
 
 // Whether a call is refused for the state after so many calls of the way, and leaves state, words and bays.
-fn is_refused(heap: Global, calls: usize, call: Call<'_>) -> Result<bool, AllocError> {
+fn is_refused(
+    rt: &impl Abort,
+    heap: Global,
+    calls: usize,
+    call: Call<'_>,
+) -> Result<bool, AllocError> {
     let mut words = [9; 7];
     let mut rack = BayTable::new(1);
-    let mut cell = cell_after(heap, calls, &mut words, &mut rack)?;
+    let mut cell = cell_after(rt, heap, calls, &mut words, &mut rack)?;
     let state = cell.state();
     let lent = words;
     let bay = rack.read(0);
@@ -46,24 +54,24 @@ fn is_refused(heap: Global, calls: usize, call: Call<'_>) -> Result<bool, AllocE
 }
 
 // Which of load, compile, arm, run and stop are refused there.
-fn refused(heap: Global, calls: usize) -> Result<[bool; 5], AllocError> {
+fn refused(rt: &impl Abort, heap: Global, calls: usize) -> Result<[bool; 5], AllocError> {
     Ok([
-        is_refused(heap, calls, Call::Load(END_BAY))?,
-        is_refused(heap, calls, Call::Compile)?,
-        is_refused(heap, calls, Call::Arm(LIMITS))?,
-        is_refused(heap, calls, Call::Run(1))?,
-        is_refused(heap, calls, Call::Stop)?,
+        is_refused(rt, heap, calls, Call::Load(END_BAY))?,
+        is_refused(rt, heap, calls, Call::Compile)?,
+        is_refused(rt, heap, calls, Call::Arm(LIMITS))?,
+        is_refused(rt, heap, calls, Call::Run(1))?,
+        is_refused(rt, heap, calls, Call::Stop)?,
     ])
 }
 
 #[test]
 fn refusals_by_state(rt: HostRuntime) -> Result<(), AllocError> {
     let heap = rt.alloc();
-    assert_eq!(rt; refused(heap, 0)?, [false, true, true, true, true]);
-    assert_eq!(rt; refused(heap, 1)?, [false, false, true, true, true]);
-    assert_eq!(rt; refused(heap, 2)?, [false, true, false, true, true]);
-    assert_eq!(rt; refused(heap, 3)?, [true, true, true, false, false]);
-    assert_eq!(rt; refused(heap, 4)?, [false, true, false, true, true]);
+    assert_eq!(rt; refused(&rt, heap, 0)?, [false, true, true, true, true]);
+    assert_eq!(rt; refused(&rt, heap, 1)?, [false, false, true, true, true]);
+    assert_eq!(rt; refused(&rt, heap, 2)?, [false, true, false, true, true]);
+    assert_eq!(rt; refused(&rt, heap, 3)?, [true, true, true, false, false]);
+    assert_eq!(rt; refused(&rt, heap, 4)?, [false, true, false, true, true]);
     Ok(())
 }
 
@@ -94,7 +102,7 @@ fn states_and_answers(rt: HostRuntime) -> Result<(), AllocError> {
 fn refused_arms(rt: HostRuntime) -> Result<(), AllocError> {
     let mut words = [9; 7];
     let mut rack = BayTable::new(3);
-    let mut cell = cell_after(rt.alloc(), 2, &mut words, &mut rack)?;
+    let mut cell = cell_after(&rt, rt.alloc(), 2, &mut words, &mut rack)?;
     let much = Limits {
         fuel: 1_000_001,
         depth: 1,

@@ -20,6 +20,7 @@ use Rattle.code.specs.declared.instruction.FunctionEntry.{FunctionEntry}
 abbrev pub op : ℕ → Operation → Instruction
 op a o = record { operation = o; place = a }
 
+-- The operation that an operator is, on the words of both parts.
 abbrev pub operator_code : Operator → Operation
 operator_code Sum = Add
 operator_code Difference = Sub
@@ -37,11 +38,12 @@ abbrev pub function_index : ℕ → List Signature → ℕ
 function_index x [] = 0
 function_index x (f ∷ fs) = cond (x == f.name) 0 (suc (function_index x fs))
 
--- A block pushes the first words of its locals, and pops them at its end; `a` is the block's place.
+-- A block at the place a pushes the first words of its locals,
 abbrev pub push_locals : ℕ → List VariableDeclaration → List Instruction
 push_locals a [] = []
 push_locals a (declare b x v ∷ ds) = op a (Lit v) ∷ push_locals a ds
 
+-- and pops them at its end.
 abbrev pub pop_locals : ℕ → List VariableDeclaration → List Instruction
 pop_locals a [] = []
 pop_locals a (d ∷ ds) = op a Pop ∷ pop_locals a ds
@@ -50,6 +52,7 @@ pop_locals a (d ∷ ds) = op a Pop ∷ pop_locals a ds
 -- parameters, then the locals that are live.
 module _ (globals : List ℕ) (functions : List Signature) where
   abbrev mutual
+    -- An expression's code leaves its word on the stack.
     pub expression_code : Expression → List ℕ → List Instruction
     expression_code (constant a v) own = op a (Lit v) ∷ []
     expression_code (variable a x) own = op a (variable_code GetL GetG (locate x own) (locate x globals)) ∷ []
@@ -60,6 +63,7 @@ module _ (globals : List ℕ) (functions : List Signature) where
     expression_code (bay_read a e) own = expression_code e own ++ (op a BayR ∷ [])
     expression_code (bay_write a e f) own = expression_code e own ++ (expression_code f own ++ (op a BayW ∷ []))
 
+    -- Arguments leave a word each, in their order.
     pub arguments_code : Arguments → List ℕ → List Instruction
     arguments_code no_argument own = []
     arguments_code (argument e es) own = expression_code e own ++ arguments_code es own
@@ -68,6 +72,7 @@ module _ (globals : List ℕ) (functions : List Signature) where
   -- RET in a function, HALT in main.
   module _ (leave : Operation) where
     abbrev mutual
+      -- A statement's code leaves a word too. The code of an if and of a while jumps over what is not to be run.
       pub statement_code : Statement → List ℕ → ℕ → List Instruction
       statement_code (evaluate a e) own start = expression_code e own
       statement_code (if_else a e s t) own start =
@@ -101,12 +106,14 @@ module _ (globals : List ℕ) (functions : List Signature) where
       statement_code Ret f.body (reverse f.parameters) start
       ++ (op f.place Pop ∷ op f.place (Lit (pos 0)) ∷ op f.place Ret ∷ [])
 
+  -- The functions' code, one after another, from `start` on.
   abbrev pub functions_code : List Function → ℕ → List Instruction
   functions_code [] start = []
   functions_code (f ∷ fs) start =
       let first = function_code f start in
       first ++ functions_code fs (start + length first)
 
+  -- Where each begins, and how many parameters it has.
   abbrev pub entries_from : List Function → ℕ → List FunctionEntry
   entries_from [] start = []
   entries_from (f ∷ fs) start =
@@ -117,10 +124,11 @@ module _ (globals : List ℕ) (functions : List Signature) where
 abbrev pub signatures_of : Program → List Signature
 signatures_of p = map signature (functions_of p.declarations)
 
+-- The code of the main statement, which begins at instruction 0 and has no names of its own.
 abbrev pub main_code : Program → List Instruction
 main_code p = statement_code (global_names p) (signatures_of p) Halt p.main [] 0
 
--- The closing HALT of main has place 0.
+-- A program's code: main's, a closing HALT at place 0, and the functions'.
 abbrev pub program_code : Program → List Instruction
 program_code p =
     main_code p
@@ -132,12 +140,14 @@ abbrev pub function_entries : Program → List FunctionEntry
 function_entries p =
     entries_from (global_names p) (signatures_of p) (functions_of p.declarations) (suc (length (main_code p)))
 
--- The first numbers of a program's globals, in order, and how many globals there are.
+-- The first number of a variable.
 abbrev pub number_of : VariableDeclaration → ℤ
 number_of (declare a x v) = v
 
+-- The first numbers of a program's globals, in order.
 abbrev pub global_numbers : Program → List ℤ
 global_numbers p = map number_of (globals_of p)
 
+-- How many globals a program has.
 abbrev pub global_count : Program → ℕ
 global_count p = length (globals_of p)

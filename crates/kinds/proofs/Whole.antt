@@ -5,12 +5,17 @@ use lib.Ieee.{Float, nan, inf, fin, binary64, up, down, eq, of_int, to_unsigned,
 use lib.Ieee.Exact.{HasValue}
 use lib.Ieee.Fits.{down_pos, up_pos}
 use Rattle.std.proofs.lemmas.Bool.{cases_eq, cases_lt, le-leb, lt-leb, eq-eqb, ne_eqb}
+use Rattle.std.specs.Bool.{then_some}
 use Rattle.kinds.specs.Rail.{whole_up_to}
 use Rattle.kinds.proofs.Literals.{literal-value}
 
 and-false : (b : Bool) → (b && false) ≡ false
 and-false true = refl
 and-false false = refl
+
+some-or-none : (test : Bool) (n : ℕ) → then_some test n ≡ cond test (Some n) None
+some-or-none true n = refl
+some-or-none false n = refl
 
 -- the test that the code makes
 abbrev tested : ℕ → Float → Option ℕ
@@ -115,22 +120,10 @@ tested-is-whole last h (fin false m e) =
     rw (eq-whole (of_int binary64 (pos n)) n m e (whole-value n (omega arith)))
     (size-tests last (m * up e) (down e) h (down_pos e))
 
--- by the ways of the code, which has n for the whole part of x, and y for n as a float
-pub whole-yes : (x y : Float) (n last : ℕ) → last < 65535
-    → n ≡ to_unsigned 16 x → y ≡ of_int binary64 (pos n) → eq y x ≡ true → n ≤ last → Some n ≡ whole_up_to last x
-whole-yes x y n last h a b t l =
-    let same : eq (of_int binary64 (pos (to_unsigned 16 x))) x ≡ true = cc in
-    let small : leb (to_unsigned 16 x) last ≡ true = le-leb (to_unsigned 16 x) last (omega arith) in
-    rw (← tested-is-whole last h x, a) (simp (same, small))
-
-pub whole-no : (x y : Float) (n last : ℕ) → last < 65535 → n ≡ to_unsigned 16 x → y ≡ of_int binary64 (pos n)
-    → ((eq y x ≡ true) × (last < n)) ⊎ (eq y x ≡ false) → None ≡ whole_up_to last x
-whole-no x y n last h a b (inl t) =
-    let large : leb (to_unsigned 16 x) last ≡ false = lt-leb (to_unsigned 16 x) last (omega (arith, t.1)) in
-    rw (← tested-is-whole last h x) (simp (large, and-false))
-whole-no x y n last h a b (inr t) =
-    let apart : eq (of_int binary64 (pos (to_unsigned 16 x))) x ≡ false = cc in
-    rw (← tested-is-whole last h x) (simp apart)
+-- by the code, which has n for the whole part of x, y for n as a float, and `test` for what its two tests give
+pub whole-tested : (x y : Float) (n last : ℕ) (test : Bool) → last < 65535 → n ≡ to_unsigned 16 x
+    → y ≡ of_int binary64 (pos n) → test ≡ (eq y x && leb n last) → then_some test n ≡ whole_up_to last x
+whole-tested x y n last test h a b e = rw (← tested-is-whole last h x, e, b, a) (some-or-none _ _)
 
 -- what has the whole value n, up to `last`, is that whole number
 whole-of-value : (x : Float) (n last : ℕ) → n ≤ last → HasValue x false n 1 → whole_up_to last x ≡ Some n

@@ -41,8 +41,5 @@ fn whole_up_to(x: f64, last: u16) -> Option<usize>
     ensures { result ≡ whole_up_to last x }
 {
     let whole = saturating_f64_to_u16(x);
-    if f64::from(whole) == x && whole <= last {
-        return Some(whole as usize);
-    }
-    None
+    (f64::from(whole) == x && whole <= last).then_some(usize::from(whole))
 }

@@ -1,19 +1,16 @@
 -- Calls and returns, by the frame records of the open calls.
-use Rattle.std.proofs.Common.{◌≡◌, ℕ, zero, suc, ◌+◌, ◌-◌, ◌<◌, ◌≤◌, Bool, true, false, ltb, List, [], ◌∷◌, reverse, length, get_or, take, set, Some, None, Option, sym, refl, ap, ◌∙◌, add-one, arith}
+use Rattle.std.proofs.Common.{◌≡◌, ℕ, suc, ◌+◌, ◌-◌, ◌<◌, ◌≤◌, ltb, List, [], ◌∷◌, reverse, length, get_or, take, set, Some, Option, sym, ap, ◌∙◌, add-one, arith}
 use Rattle.std.specs.List.{slice_get}
 use Rattle.std.proofs.lemmas.List.{take_more, take_more_set, reverse-append, length-reverse, length-take-le}
 use Rattle.std.proofs.lemmas.Option.{slice_get-get_or, slice_get_within}
-use Rattle.std.proofs.lemmas.Bool.{lt-ltb, ltb-true}
+use Rattle.std.proofs.lemmas.Bool.{lt-ltb}
 use Rattle.kinds.specs.Words.{zero_word}
-use Rattle.script.specs.declared.ending.Ending.{Ending}
-use Rattle.script.specs.declared.ending.Ending.TheVariants.{TooDeep}
 use Rattle.code.specs.declared.instruction.Operation.TheVariants.{Call, Ret}
 use Rattle.code.specs.declared.instruction.FunctionEntry.{FunctionEntry}
 use Rattle.machine.specs.declared.state.Frame.{Frame}
 use Rattle.machine.specs.declared.state.Machine.{Machine}
-use Rattle.machine.specs.Machine.{Image, MachineState, Progress, running, over, execute, state_of}
+use Rattle.machine.specs.Machine.{Image, MachineState, Progress, running, execute, state_of}
 use Rattle.machine.specs.Machine.{call_function, call_within, spend_fuel_from, enter_function, return_into}
-use Rattle.machine.specs.Steps.{refused_by}
 use Rattle.machine.proofs.Steps.{at_most, pop-one}
 
 -- ---- the records
@@ -43,15 +40,6 @@ frames-less records calls caller some found =
     ∙ (reverse-append (take (calls - 1) records) (get_or records (calls - 1) caller ∷ [])
     ∙ ap (λ (f : Frame). f ∷ reverse (take (calls - 1) records)) (sym last)))
 
--- a call that is not refused finds room and fuel
-pub admitted : (calls depth fuel : ℕ) → refused_by (ltb calls depth) fuel ≡ None → (calls < depth) × (0 < fuel)
-admitted calls depth fuel e = let h = by (ltb calls depth) fuel e in (ltb-true calls depth h.0, h.1)
-  where
-    by : (t : Bool) (n : ℕ) → refused_by t n ≡ None → (t ≡ true) × (0 < n)
-    by true zero e = let z : ◌≡◌ {A = ℕ} 0 1 = cc in absurd (omega arith)
-    by true (suc n) e = (refl, omega arith)
-    by false n e = let z : ◌≡◌ {A = ℕ} 0 1 = cc in absurd (omega arith)
-
 -- ---- a call whose function is there and has its arguments
 
 module _ {W : Type 0} (I : Image W) (m : Machine) (words bays : List W) (f place : ℕ) (function : FunctionEntry)
@@ -66,28 +54,6 @@ module _ {W : Type 0} (I : Image W) (m : Machine) (words bays : List W) (f place
       ∙ (at_most function.parameters m.height _ arguments
       ∙ ap (λ (n : ℕ). call_within (ltb n I.depth) place function state)
       (frames-open m.frames.records m.calls recorded))
-
-  -- what a call comes to, by the depth's test and the fuel
-  by_tests : Bool → ℕ → Progress W
-  by_tests true n = spend_fuel_from place n state (λ (x : MachineState W). enter_function function x)
-  by_tests false n = over TooDeep place state
-
-  tested : (t : Bool) → call_within t place function state ≡ by_tests t m.fuel
-  unfolding by_tests
-  tested true = refl
-  tested false = refl
-
-  ends_by : (t : Bool) (n : ℕ) (ending : Ending) → refused_by t n ≡ Some ending → by_tests t n ≡ over ending place state
-  unfolding by_tests
-  ends_by false n ending e = cc
-  ends_by true zero ending e = cc
-  ends_by true (suc n) ending e = cc
-
-  pub refused :
-      (ending : Ending) → refused_by (ltb m.calls I.depth) m.fuel ≡ Some ending
-      → execute I (Call f) place state ≡ over ending place state
-  refused ending e =
-      within ∙ (tested (ltb m.calls I.depth) ∙ ends_by (ltb m.calls I.depth) m.fuel ending e)
 
   module _ (shallow : m.calls < I.depth) where
     allowed :

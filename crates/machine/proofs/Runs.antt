@@ -1,41 +1,41 @@
 -- A run in pieces, and a run that is made step by step.
-use Rattle.std.proofs.Common.{◌≡◌, ℕ, zero, suc, ◌+◌, ◌-◌, ◌<◌, ◌≤◌, Bool, List, sym, refl, ap, subst, ◌∙◌, suc-add, zero-add, arith}
+use Rattle.std.proofs.Common.{◌≡◌, ℕ, zero, suc, ◌+◌, ◌-◌, ◌<◌, ◌≤◌, Bool, List, Ok, Err, sym, refl, ap, subst, ◌∙◌, suc-add, zero-add, arith}
 use Rattle.kinds.specs.Kinds.{Kind}
 use Rattle.script.specs.declared.ending.Ending.{Ending}
 use Rattle.script.specs.declared.ending.RunEnd.{RunEnd}
 use Rattle.code.specs.declared.instruction.Instruction.{Instruction}
 use Rattle.code.specs.declared.instruction.FunctionEntry.{FunctionEntry}
-use Rattle.machine.specs.declared.outcome.Step.{Step}
-use Rattle.machine.specs.declared.outcome.Step.TheVariants.{Running, Over, Undefined}
+use Rattle.machine.specs.declared.outcome.Stop.{Stop}
+use Rattle.machine.specs.declared.outcome.Stop.TheVariants.{Over, Undefined}
 use Rattle.machine.specs.declared.state.Machine.{Machine}
 use Rattle.machine.specs.Machine.{Image, MachineState, Progress, running, over, undefined, step, proceed, run}
 use Rattle.machine.specs.Machine.{image_of}
-use Rattle.machine.specs.Steps.{Makes, answer_of, state_after, count_from, steps_made, run_at_most, steps_after, InPieces}
+use Rattle.machine.specs.Steps.{Told, Makes, answer_of, state_after, count_from, steps_made, steps_until, run_at_most, steps_after, InPieces}
 
 -- ---- an answer and a state tell the progress
 
 module _ {W : Type 0} where
   pub told-running :
-      (p : Progress W) (before after : MachineState W) → Running ≡ answer_of p → after ≡ state_after p before
+      (p : Progress W) (before after : MachineState W) → Ok tt ≡ answer_of p → after ≡ state_after p before
       → p ≡ running after
   told-running (running x) before after e s = ap running (sym s)
   told-running (over f place x) before after e s = cc
   told-running undefined before after e s = cc
 
-  pub told_over :
-      (p : Progress W) (before after : MachineState W) (end : RunEnd) → Over end ≡ answer_of p
+  told_over :
+      (p : Progress W) (before after : MachineState W) (end : RunEnd) → Err (Over end) ≡ answer_of p
       → after ≡ state_after p before → p ≡ over end.ending end.place after
   told_over (running x) before after end e s = cc
   told_over (over f q x) before after end e s = cc
   told_over undefined before after end e s = cc
 
-  pub told-undefined : (p : Progress W) → Undefined ≡ answer_of p → p ≡ undefined
+  told-undefined : (p : Progress W) → Err Undefined ≡ answer_of p → p ≡ undefined
   told-undefined (running x) e = cc
   told-undefined (over f place x) e = cc
   told-undefined undefined e = refl
 
-  pub left-undefined :
-      (p : Progress W) (before after : MachineState W) → Undefined ≡ answer_of p → after ≡ state_after p before
+  left-undefined :
+      (p : Progress W) (before after : MachineState W) → Err Undefined ≡ answer_of p → after ≡ state_after p before
       → after ≡ before
   left-undefined (running x) before after e s = cc
   left-undefined (over f place x) before after e s = cc
@@ -115,7 +115,7 @@ module _ {W : Type 0} (I : Image W) where
 
   -- The record of a run from its three parts.
   came :
-      (steps : ℕ) (start : MachineState W) (outcome : Step) (made : ℕ) (after : MachineState W)
+      (steps : ℕ) (start : MachineState W) (outcome : Told) (made : ℕ) (after : MachineState W)
       → outcome ≡ answer_of (run I steps start) → made ≡ steps_made I steps start
       → after ≡ state_after (run I made start) start
       → record { outcome = outcome; made = made; state = after } ≡ run_at_most I steps start
@@ -166,28 +166,40 @@ module _ {W : Type 0} (I : Image W) where
           ∙ ap (λ (n : ℕ). made + n) (ap (λ (n : ℕ). steps_made I n here) e
           ∙ ap (λ (o : Progress W). count_from o (steps_made I (steps - made - 1))) is)
 
-    pub ends-here :
-        (end : RunEnd) (there : MachineState W) (outcome : Step) (all : ℕ) → made < steps → outcome ≡ Over end
+    ends-here :
+        (end : RunEnd) (there : MachineState W) (outcome : Told) (all : ℕ) → made < steps → outcome ≡ Err (Over end)
         → all ≡ made + 1 → step I here ≡ over end.ending end.place there
         → record { outcome = outcome; made = all; state = there } ≡ run_at_most I steps start
     ends-here end there outcome all some told count e =
         came steps start outcome all there (told ∙ sym (told-here some _ e)) (count ∙ sym (counted-here some _ e))
         (sym (ap (λ (p : Progress W). state_after p start) (ap (λ (k : ℕ). run I k start) count ∙ (next ∙ e))))
 
-    pub stays_here :
-        (there : MachineState W) → made < steps → there ≡ here → step I here ≡ undefined
-        → record { outcome = Undefined; made = made; state = there } ≡ run_at_most I steps start
-    stays_here there some stays e =
-        let count : made + 0 ≡ made = omega arith in
-        came steps start Undefined made there (sym (told-here some _ e)) (sym (counted-here some _ e ∙ count))
-        (stays ∙ sym (ap (λ (p : Progress W). state_after p start) reached))
+    stays_here :
+        (there : MachineState W) (outcome : Told) (all : ℕ) → made < steps → outcome ≡ Err Undefined → all ≡ made
+        → there ≡ here → step I here ≡ undefined
+        → record { outcome = outcome; made = all; state = there } ≡ run_at_most I steps start
+    stays_here there outcome all some told count stays e =
+        let none : made + 0 ≡ made = omega arith in
+        came steps start outcome all there (told ∙ sym (told-here some _ e)) (count ∙ sym (counted-here some _ e ∙ none))
+        (stays
+        ∙ sym (ap (λ (p : Progress W). state_after p start) (ap (λ (k : ℕ). run I k start) count ∙ reached)))
+
+    -- the machine stops
+    pub stops_here :
+        (stop : Stop) (there : MachineState W) (outcome : Told) (all : ℕ) → made < steps → outcome ≡ Err stop
+        → all ≡ steps_until stop made → Err stop ≡ answer_of (step I here) → there ≡ state_after (step I here) here
+        → record { outcome = outcome; made = all; state = there } ≡ run_at_most I steps start
+    stops_here (Over end) there outcome all some told count tells leaves =
+        ends-here end there outcome all some told count (told_over _ _ _ end tells leaves)
+    stops_here Undefined there outcome all some told count tells leaves =
+        stays_here there outcome all some told count (left-undefined _ _ _ tells leaves) (told-undefined _ tells)
 
     -- no step is left
-    pub pauses-here : steps ≤ made → record { outcome = Running; made = steps; state = here } ≡ run_at_most I steps start
+    pub pauses-here : steps ≤ made → record { outcome = Ok tt; made = steps; state = here } ≡ run_at_most I steps start
     pauses-here none =
         let n : made ≡ steps = omega arith in
         let all : run I steps start ≡ running here = ap (λ (k : ℕ). run I k start) (sym n) ∙ reached in
-        came steps start Running steps here (sym (ap answer_of all)) (sym (made-running steps start here all))
+        came steps start (Ok tt) steps here (sym (ap answer_of all)) (sym (made-running steps start here all))
         (sym (ap (λ (p : Progress W). state_after p start) all))
 
 pub in_pieces : {W : Type 0} → InPieces W
@@ -197,7 +209,7 @@ in_pieces I a b m = record { whole = run-add I a b m; count = made-add I a b m }
 
 pub from_start :
     {W : Type 0} (kind : Kind W) (holds holds' : W → Bool) (code : List Instruction) (entries : List FunctionEntry)
-    (start m n : Machine) (words bays words' bays' : List W) (answer : Step)
+    (start m n : Machine) (words bays words' bays' : List W) (answer : Told)
     → holds' ≡ holds → m.depth ≡ start.depth → m.globals ≡ start.globals
     → Makes (step (image_of kind holds' code entries m)) m words bays answer n words' bays'
     → Makes (step (image_of kind holds code entries start)) m words bays answer n words' bays'

@@ -1,19 +1,23 @@
 -- What the code's step and run tell and leave, by the definition's progress.
-use Rattle.std.specs.Prelude.{◌≡◌, ℕ, zero, suc, ◌+◌, Bool, true, false, List, [], Some, None, Option, nat_lt}
+use Rattle.std.specs.Prelude.{◌≡◌, ℕ, zero, suc, ◌+◌, Bool, false, List, [], Some, None, Ok, Err, Option, Result}
 use Rattle.kinds.specs.Kinds.{Kind}
-use Rattle.script.specs.declared.ending.Ending.{Ending}
+use Rattle.script.specs.declared.ending.RunEnd.{RunEnd}
 use Rattle.machine.specs.declared.outcome.Run.{Run}
-use Rattle.machine.specs.declared.outcome.Step.{Step}
-use Rattle.machine.specs.declared.outcome.Step.TheVariants.{Running, Over, Undefined}
+use Rattle.machine.specs.declared.outcome.Stop.{Stop}
+use Rattle.machine.specs.declared.outcome.Stop.TheVariants.{Over, Undefined}
 use Rattle.machine.specs.declared.state.Machine.{Machine}
 use Rattle.machine.specs.Machine.{Image, MachineState, Progress, running, over, undefined}
 use Rattle.machine.specs.Machine.{step, run, proceed, state_of, image_of}
 
+-- What a step or a run tells: nothing where the machine goes on, or why it stops.
+abbrev pub Told : Type 0
+Told = Result (Unit {0}) Stop
+
 -- What the code tells of a progress.
-abbrev pub answer_of : {W : Type 0} → Progress W → Step
-answer_of (running after) = Running
-answer_of (over e place after) = Over (record { ending = e; place = place })
-answer_of undefined = Undefined
+abbrev pub answer_of : {W : Type 0} → Progress W → Told
+answer_of (running after) = Ok tt
+answer_of (over e place after) = Err (Over (record { ending = e; place = place }))
+answer_of undefined = Err Undefined
 
 -- The state that a progress leaves: what the table does not define changes nothing.
 abbrev pub state_after : {W : Type 0} → Progress W → MachineState W → MachineState W
@@ -24,7 +28,7 @@ state_after undefined before = before
 -- A machine with its words and its bays does what an instruction defines: the answer and the state it leaves are those
 -- of the instruction's progress, and depth and number of globals stay.
 pub record Makes {W : Type 0} (instruction : MachineState W → Progress W) (before : Machine) (words bays : List W)
-    (answer : Step) (after : Machine) (words' bays' : List W) : Type 0 where
+    (answer : Told) (after : Machine) (words' bays' : List W) : Type 0 where
   pub tells : answer ≡ answer_of (instruction (state_of before words bays))
   pub leaves :
       state_of after words' bays' ≡ state_after (instruction (state_of before words bays)) (state_of before words bays)
@@ -32,40 +36,30 @@ pub record Makes {W : Type 0} (instruction : MachineState W → Progress W) (bef
   pub globals : after.globals ≡ before.globals
 
 -- The program counter moves on before an instruction, and back where the machine does not go on.
-abbrev pub moved_back : Step → ℕ → Machine → Machine
-moved_back Running pc m = m
-moved_back (Over end) pc m = record m { pc = pc }
-moved_back Undefined pc m = record m { pc = pc }
+abbrev pub moved_back : Told → ℕ → Machine → Machine
+moved_back (Ok u) pc m = m
+moved_back (Err stop) pc m = record m { pc = pc }
 
 -- The same of a machine whose program counter has moved on, from any pc, and is yet to move back.
 abbrev pub MakesMoved :
-    {W : Type 0} → (MachineState W → Progress W) → Machine → List W → List W → Step → Machine → List W → List W → Type 0
+    {W : Type 0} → (MachineState W → Progress W) → Machine → List W → List W → Told → Machine → List W → List W → Type 0
 MakesMoved instruction before words bays answer after words' bays' =
     (pc : ℕ) → before.pc ≡ pc + 1
     → Makes instruction (record before { pc = pc }) words bays answer (moved_back answer pc after) words' bays'
 
 -- And of an instruction that concerns no bay, whatever the bays hold; and of one that concerns no word either.
 abbrev pub MakesOnWords :
-    {W : Type 0} → (MachineState W → Progress W) → Machine → List W → Step → Machine → List W → Type 0
+    {W : Type 0} → (MachineState W → Progress W) → Machine → List W → Told → Machine → List W → Type 0
 MakesOnWords {W = W} instruction before words answer after words' =
     (bays : List W) → MakesMoved instruction before words bays answer after words' bays
 
-abbrev pub MakesAlone : {W : Type 0} → (MachineState W → Progress W) → Machine → Step → Machine → Type 0
+abbrev pub MakesAlone : {W : Type 0} → (MachineState W → Progress W) → Machine → Told → Machine → Type 0
 MakesAlone {W = W} instruction before answer after =
     (words bays : List W) → MakesMoved instruction before words bays answer after words bays
 
 -- What an instruction that concerns no bay and no code runs on: the kind and the machine's own limits.
 abbrev pub word_image : {W : Type 0} → Kind W → Machine → Image W
 word_image kind m = image_of kind (λ _. false) [] [] m
-
--- How a call ends a run, if it does: no more calls may be open, which is tested first, or there is no fuel.
-abbrev pub refused_by : Bool → ℕ → Option Ending
-refused_by false n = Some Ending.TooDeep
-refused_by true zero = Some Ending.NoFuel
-refused_by true (suc n) = None
-
-abbrev pub call_refused : Machine → Option Ending
-call_refused m = refused_by (nat_lt m.calls m.depth) m.fuel
 
 -- ---- runs
 
@@ -80,9 +74,20 @@ unfoldable pub steps_made : {W : Type 0} → Image W → ℕ → MachineState W 
 steps_made I zero m = 0
 steps_made I (suc n) m = count_from (step I m) (steps_made I n)
 
+-- The steps of a run that stopped after some: an instruction that ends it counts as one.
+abbrev pub steps_until : Stop → ℕ → ℕ
+steps_until (Over end) before = before + 1
+steps_until Undefined before = before
+
+-- How a run has ended, if it has.
+abbrev pub end_of : Told → Option RunEnd
+end_of (Ok u) = None
+end_of (Err (Over end)) = Some end
+end_of (Err Undefined) = None
+
 -- How a run came out, the steps it made, and the state that it leaves.
 pub record Ran (W : Type 0) : Type 0 where
-  pub outcome : Step
+  pub outcome : Told
   pub made : ℕ
   pub state : MachineState W
 

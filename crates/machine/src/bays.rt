@@ -4,7 +4,7 @@ ghost use Rattle.code.specs.declared.instruction.Operation.TheVariants.{BayR, Ba
 ghost use Rattle.machine.specs.Machine.{execute, image_of};
 ghost use Rattle.machine.specs.Steps.{MakesMoved};
 
-use crate::outcome::Step;
+use crate::outcome::{Step, Stop};
 use crate::state::Machine;
 use kinds::NumberKind;
 use racks::Rack;
@@ -24,20 +24,15 @@ impl Machine {
             self.old words.old (R.Rack.bays rack.now) result
             self.new words.new (R.Rack.bays rack.now) }
     {
-        if self.height == 0 {
-            return Step::Undefined;
-        }
-        let top = self.height - 1;
+        let top = self.top()?;
         let mut stack = Stack::new(words, self.height);
         let named = stack.get(top, <R::Word as NumberKind>::literal(0));
         let Some(slot) = named.slot() else {
-            return Step::over(Ending::NoSuchBay, place);
+            return Err(Stop::over(Ending::NoSuchBay, place));
         };
-        let Some(word) = rack.read(slot) else {
-            return Step::over(Ending::NoSuchBay, place);
-        };
+        let word = rack.read(slot).ok_or(Stop::over(Ending::NoSuchBay, place))?;
         stack.put(top, word);
-        Step::Running
+        Ok(())
     }
 
     // Writes the top into the bay whose slot lies under it, and puts it in the place of both.
@@ -54,17 +49,14 @@ impl Machine {
         ensures holds { R.Rack.holds rack.new ≡ R.Rack.holds rack.old }
         ensures loan { R.Rack.loan rack.new ≡ R.Rack.loan rack.old }
     {
-        if self.height < 2 {
-            return Step::Undefined;
-        }
+        self.has_two()?;
         let (named, word) = self.operands(words);
         let Some(slot) = named.slot() else {
-            return Step::over(Ending::NoSuchBay, place);
+            return Err(Stop::over(Ending::NoSuchBay, place));
         };
-        if let Err(fault) = rack.write(slot, word) {
-            return Step::over(Ending::from(fault), place);
-        }
+        rack.write(slot, word)
+            .map_err(|fault| Stop::over(Ending::from(fault), place))?;
         self.replace_two(words, word);
-        Step::Running
+        Ok(())
     }
 }

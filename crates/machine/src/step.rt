@@ -1,29 +1,16 @@
 // Steps and runs of the machine. Words and rack stay two parameters: they are lent by two owners, and a struct of both
 // would be built anew at each call. That what bays hold and what is on loan stays relates two moments of a rack, so it is
 // a clause and no invariant.
-ghost use Rattle.std.specs.Prelude.{◌≡◌, ◌+◌, ◌^◌, ◌<◌, List};
+ghost use Rattle.std.specs.Prelude.{◌≡◌, List};
 ghost use Rattle.machine.specs.Machine.{execute, step, image_of, state_of};
 ghost use Rattle.machine.specs.Steps.{Makes, MakesMoved, run_leaving, run_at_most, InPieces};
 
-use crate::outcome::{Run, Step};
+use crate::outcome::{Run, Step, Stop};
 use crate::state::Machine;
 use crate::words::truth;
 use code::instruction::{Code, FunctionEntry, Instruction, Operation};
 use kinds::NumberKind;
 use racks::Rack;
-use script::RunEnd;
-
-// The run that an instruction ended after some steps: it counts as one.
-fn ended(end: RunEnd, before: u32) -> Run
-    requires { before + 1 < 2 ^ 32 }
-    ensures outcome { result.outcome ≡ Step.Over end }
-    ensures made { result.made ≡ before + 1 }
-{
-    Run {
-        outcome: Step::Over(end),
-        made: before + 1,
-    }
-}
 
 impl Machine {
     // One instruction of the table, once the program counter is moved on.
@@ -73,15 +60,16 @@ impl Machine {
         ensures holds { R.Rack.holds rack.new ≡ R.Rack.holds rack.old }
         ensures loan { R.Rack.loan rack.new ≡ R.Rack.loan rack.old }
     {
-        let Some(instruction) = code.instructions.get(self.pc).copied() else {
-            return Step::Undefined;
-        };
+        let instruction = code
+            .instructions
+            .get(self.pc)
+            .copied()
+            .ok_or(Stop::Undefined)?;
         let here = self.pc;
         self.pc += 1;
         let step = self.execute(words, rack, code.entries, instruction);
-        match step {
-            Step::Running => {}
-            Step::Over(_) | Step::Undefined => self.pc = here,
+        if step.is_err() {
+            self.pc = here;
         }
         step
     }
@@ -105,19 +93,12 @@ impl Machine {
         ensures loan { R.Rack.loan rack.new ≡ R.Rack.loan rack.old }
     {
         for made in 0..steps {
-            match self.step(words, rack, code) {
-                Step::Running => {}
-                Step::Over(end) => return ended(end, made),
-                Step::Undefined => {
-                    return Run {
-                        outcome: Step::Undefined,
-                        made,
-                    };
-                }
+            if let Err(stop) = self.step(words, rack, code) {
+                return Run::stopped(stop, made);
             }
         }
         Run {
-            outcome: Step::Running,
+            outcome: Ok(()),
             made: steps,
         }
     }

@@ -1,11 +1,11 @@
 // Instructions on the words of the stack.
-ghost use Rattle.std.specs.Prelude.{◌≡◌, suc, ◌-◌, ◌≤◌, slice_index_or, slice_set};
+ghost use Rattle.std.specs.Prelude.{◌≡◌, suc, ◌+◌, ◌-◌, ◌<◌, ◌≤◌, MatchResult, slice_index_or, slice_set};
 ghost use Rattle.kinds.specs.Words.{zero_word, truth_word};
 ghost use Rattle.code.specs.declared.instruction.Operation.TheVariants.{GetL, SetL, Pop, Jz};
 ghost use Rattle.machine.specs.Machine.{execute, push, fetch_word, store_word, combine};
 ghost use Rattle.machine.specs.Steps.{MakesOnWords, MakesAlone, word_image};
 
-use crate::outcome::Step;
+use crate::outcome::{Step, Stop};
 use crate::state::Machine;
 use kinds::NumberKind;
 use stack::Stack;
@@ -14,22 +14,41 @@ use stack::Stack;
 pub(crate) fn truth<W: NumberKind>(test: bool) -> W
     ensures { result ≡ truth_word W.NumberKind.kind test }
 {
-    if test { W::literal(1) } else { W::literal(0) }
+    W::literal(i32::from(test))
 }
 
 impl Machine {
+    // The index of the top.
+    pub(crate) fn top(&self) -> Result<usize, Stop>
+        ensures { MatchResult result (λ i. self.now.height ≡ i + 1)
+            (λ stop. (stop ≡ Stop.Undefined) × (self.now.height ≡ 0)) }
+    {
+        self.height.checked_sub(1).ok_or(Stop::Undefined)
+    }
+
+    // The index of a slot of the frame, which lies on the stack.
+    fn local(&self, slot: usize) -> Result<usize, Stop>
+        ensures { MatchResult result (λ i. i ≡ self.now.base + slot)
+            (λ stop. (stop ≡ Stop.Undefined) × (self.now.height ≤ self.now.base + slot)) }
+    {
+        if slot >= self.height.saturating_sub(self.base) {
+            return Err(Stop::Undefined);
+        }
+        Ok(self.base + slot)
+    }
+
     // Pushes a word; a full store takes none.
     pub(crate) fn push<W: NumberKind + Copy>(&mut self, words: &mut [W], word: W) -> Step
         ensures { MakesOnWords (push word) self.old words.old result
             self.new words.new }
     {
         if self.height >= words.len() {
-            return Step::Undefined;
+            return Err(Stop::Undefined);
         }
         let mut stack = Stack::new(words, self.height);
         stack.push(word);
         self.height = stack.height();
-        Step::Running
+        Ok(())
     }
 
     // Pushes word `i` of the stack.
@@ -38,7 +57,7 @@ impl Machine {
             self.old words.old result self.new words.new }
     {
         if i >= self.height {
-            return Step::Undefined;
+            return Err(Stop::Undefined);
         }
         let stack = Stack::new(words, self.height);
         let word = stack.get(i, W::literal(0));
@@ -60,12 +79,11 @@ impl Machine {
         ensures { MakesOnWords (store_word (word_image W.NumberKind.kind self.old) i)
             self.old words.old result self.new words.new }
     {
-        let top = self.height.saturating_sub(1);
-        if i >= top {
-            return Step::Undefined;
+        if i >= self.top()? {
+            return Err(Stop::Undefined);
         }
         self.copy_top(words, i);
-        Step::Running
+        Ok(())
     }
 
     // Pushes a slot of the frame.
@@ -73,21 +91,28 @@ impl Machine {
         ensures { MakesOnWords (execute (word_image W.NumberKind.kind self.old) (GetL slot) 0)
             self.old words.old result self.new words.new }
     {
-        if slot >= self.height.saturating_sub(self.base) {
-            return Step::Undefined;
-        }
-        self.fetch_word(words, self.base + slot)
+        let i = self.local(slot)?;
+        self.fetch_word(words, i)
     }
 
-    // Stores the top, which stays, in a slot of the frame. The test is the one of `get_local`; what follows differs.
+    // Stores the top, which stays, in a slot of the frame.
     pub(crate) fn set_local<W: NumberKind + Copy>(&mut self, words: &mut [W], slot: usize) -> Step
         ensures { MakesOnWords (execute (word_image W.NumberKind.kind self.old) (SetL slot) 0)
             self.old words.old result self.new words.new }
     {
-        if slot >= self.height.saturating_sub(self.base) {
-            return Step::Undefined;
+        let i = self.local(slot)?;
+        self.store_word(words, i)
+    }
+
+    // Are there two words?
+    pub(crate) fn has_two(&self) -> Step
+        ensures { MatchResult result (λ _. 2 ≤ self.now.height)
+            (λ stop. (stop ≡ Stop.Undefined) × (self.now.height < 2)) }
+    {
+        if self.height < 2 {
+            return Err(Stop::Undefined);
         }
-        self.store_word(words, self.base + slot)
+        Ok(())
     }
 
     // The two topmost words, the upper one second.
@@ -129,12 +154,10 @@ impl Machine {
             → MakesOnWords (combine (word_image W.NumberKind.kind self.old) made)
             self.old words.old result self.new words.new }
     {
-        if self.height < 2 {
-            return Step::Undefined;
-        }
+        self.has_two()?;
         let (first, second) = self.operands(words);
         self.replace_two(words, f(first, second));
-        Step::Running
+        Ok(())
     }
 
     // Takes the top off.
@@ -142,11 +165,8 @@ impl Machine {
         ensures { MakesAlone (execute (word_image W.NumberKind.kind self.old) Pop 0)
             self.old result self.new }
     {
-        if self.height == 0 {
-            return Step::Undefined;
-        }
-        self.height -= 1;
-        Step::Running
+        self.height = self.top()?;
+        Ok(())
     }
 
     // Takes the top off, and jumps if it is zero.
@@ -158,15 +178,13 @@ impl Machine {
         ensures { MakesOnWords (execute (word_image W.NumberKind.kind self.old) (Jz target) 0)
             self.old words.old result self.new words.new }
     {
-        if self.height == 0 {
-            return Step::Undefined;
-        }
-        let mut stack = Stack::new(words, self.height);
-        let test = stack.pop(W::literal(0));
-        self.height = stack.height();
+        let top = self.top()?;
+        let stack = Stack::new(words, self.height);
+        let test = stack.get(top, W::literal(0));
+        self.height = top;
         if test.is_zero() {
             self.pc = target;
         }
-        Step::Running
+        Ok(())
     }
 }

@@ -4,21 +4,19 @@ use Rattle.std.proofs.lemmas.List.{map-append}
 use Rattle.std.proofs.lemmas.Bool.{false≢true, eqb-true, eq-eqb, eqb-false, leb-true, le-leb}
 use Rattle.script.specs.declared.refusal.Refusal.{Refusal}
 use Rattle.script.specs.declared.refusal.Refusal.TheVariants.{DeclaredTwice, Undeclared, ArgumentCount, FrameNeed}
+use Rattle.script.specs.Refusals.{unless}
 use Rattle.syntax.specs.Syntax.{VariableDeclaration, declare, Expression, constant, variable, binary, assign, call}
-use Rattle.syntax.specs.Syntax.{bay_read, bay_write}
-use Rattle.syntax.specs.Syntax.{Arguments, no_argument, argument, Statement, evaluate, if_else, while, give_back, block}
-use Rattle.syntax.specs.Syntax.{Statements, no_statement, then, Function, Declaration, of_a_variable, of_a_function}
-use Rattle.syntax.specs.Syntax.{name_of}
-use Rattle.syntax.specs.Syntax.{bind_names, argument_count, locate, function_named, functions_of, variables_of}
-use Rattle.syntax.specs.Syntax.{global_names}
+use Rattle.syntax.specs.Syntax.{bay_read, bay_write, Arguments, no_argument, argument, Statement, evaluate, if_else}
+use Rattle.syntax.specs.Syntax.{while, give_back, block, Statements, no_statement, then, Function, Declaration}
+use Rattle.syntax.specs.Syntax.{of_a_variable, of_a_function, name_of, bind_names, argument_count, locate}
+use Rattle.syntax.specs.Syntax.{function_named, functions_of, variables_of, global_names}
 use Rattle.names.specs.declared.signature.Signature.{Signature}
 use Rattle.names.specs.Need.{largest_need}
-use Rattle.names.specs.Names.{Answer, ◌⨟◌, unless, signature, is_function, call_rule, declared, global_rules, local_rules}
-use Rattle.names.specs.Names.{parameter_rules}
-use Rattle.names.specs.Names.{expression_rules, argument_rules, statement_rules, block_rules, function_rules}
+use Rattle.names.specs.Names.{Answer, ◌⨟◌, signature, is_function, call_rule, declared, global_rules, local_rules}
+use Rattle.names.specs.Names.{parameter_rules, expression_rules, argument_rules, statement_rules, block_rules}
+use Rattle.names.specs.Names.{function_rules}
 use Rattle.names.specs.Scoped.{Member, Distinct, Takes, Known, Fresh, AllFresh, ScopedExpression, ScopedArguments}
-use Rattle.names.specs.Scoped.{ScopedStatement}
-use Rattle.names.specs.Scoped.{ScopedStatements, ScopedFunctions, function_name}
+use Rattle.names.specs.Scoped.{ScopedStatement, ScopedStatements, ScopedFunctions, function_name}
 use Rattle.names.specs.Laws.{PassesWhereWellNamed}
 use Rattle.names.proofs.Outcomes.{never}
 

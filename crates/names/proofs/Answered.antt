@@ -14,13 +14,19 @@ use Rattle.names.specs.Tables.{summary_of, checked_names, table_rules}
 use Rattle.names.specs.Laws.{RightlyAnswered}
 use Rattle.syntax.specs.Trees.{tree_at, Sound}
 use Rattle.syntax.proofs.Shaped.{Shaped, shaped}
+use Rattle.names.specs.declared.sound.SoundTable.{SoundTable}
 use Rattle.names.proofs.Outcomes.{never, went}
+use Rattle.names.proofs.SoundTables.{shape-fits}
 use Rattle.names.proofs.Acceptance.{passes-where-well-named}
 
 module _ (table : List Record) where
-  pub past-shape : (u : Unit {0}) (r : Result Summary Refusal) → Ok u ≡ shape table → r ≡ checked_names table → r
-      ≡ table_rules table
-  past-shape u r e h = rw (← e) h
+  -- The answer for a sound table's names is that for the table.
+  pub past-shape : (t : SoundTable) (r : Result Summary Refusal) → t.records.now ≡ table →
+      r ≡ checked_names t.records.now → r ≡ table_rules table
+  past-shape t r same h =
+      let fits : shape table ≡ Ok tt = subst (λ (x : List Record). shape x ≡ Ok tt) same (shape-fits t) in
+      let named : r ≡ checked_names table = subst (λ (x : List Record). r ≡ checked_names x) same h in
+      rw fits named
 
   by-rules : (a : Answer) → name_rules (program_of table) ≡ a → RightlyAnswered table (outcome a (summary_of table))
   by-rules (Ok tt) e = (passes-where-well-named (program_of table)).0 e
@@ -34,11 +40,6 @@ module _ (table : List Record) where
 
   pub rightly-answered : (r : Result Summary Refusal) → r ≡ table_rules table → RightlyAnswered table r
   rightly-answered r e = subst (RightlyAnswered table) (sym e) (by_shape (shape table) (λ y q shaped. shaped y q))
-
-  -- A table that the shape check takes.
-  pub shape-sound : (r : Answer) → r ≡ shape table → IfOk r (λ _. Sound (tree_at table 0) Program)
-  shape-sound (Ok tt) e = (shaped table (sym e)).sound
-  shape-sound (Err y) e = tt
 
 -- An accepted table: it is a sound program, its program is well named, and what is told of it.
 pub record AcceptedTable (table : List Record) (s : Summary) : Type 0 where

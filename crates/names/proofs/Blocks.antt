@@ -22,15 +22,15 @@ module _ (c : Context) (scope : List ℕ) (at n m : ℕ) where
   functions = c.functions.now
 
   abbrev ss : Statements
-  ss = statements_at c.table.now m n
+  ss = statements_at c.table.records.now m n
 
   -- the index after the statements
   abbrev end : ℕ
-  end = m + sizes (pieces c.table.now m n)
+  end = m + sizes (pieces c.table.records.now m n)
 
-  module _ (k : ℕ) (p : Blocked c.table.now at k n m) where
+  module _ (k : ℕ) (p : Blocked c.table.records.now at k n m) where
     abbrev ds : List VariableDeclaration
-    ds = variables_at c.table.now (at + 1) k
+    ds = variables_at c.table.records.now (at + 1) k
 
     pub locals-refused : (y : Refusal) → Err y ≡ checked_locals c k (at + 1) scope → Err y ≡ checked_statement c at scope
     locals-refused y h = rw p.is (refused _ _ _ _ y h)
@@ -42,18 +42,18 @@ module _ (c : Context) (scope : List ℕ) (at n m : ℕ) where
         rw p.is (on (local_rules globals ds (reverse scope)) (block_rules globals functions ss (bind_names ds (reverse scope)))
         end _ r w.0 (omega (arith, w.1, p.whole)) (inner-scope globals functions ss end r ds scope inner e q))
 
-  module _ (node : Record) (p : Stated c.table.now at n m node) where
+  module _ (node : Record) (p : Stated c.table.records.now at n m node) where
     abbrev e : Expression
-    e = expression_at c.table.now (at + 1)
+    e = expression_at c.table.records.now (at + 1)
 
     pub test-refused : (y : Refusal) → Err y ≡ checked_expression c (at + 1) scope → Err y ≡ checked_statement c at scope
     test-refused y h =
-        rw (statement-rules globals functions (reverse scope) c.table.now at n m node p) (refused _ _ _ _ y h)
+        rw (statement-rules globals functions (reverse scope) c.table.records.now at n m node p) (refused _ _ _ _ y h)
 
     pub plain-answered : (r : Result ℕ Refusal) → Ok m ≡ checked_expression c (at + 1) scope →
         r ≡ checked_statements c n m scope → r ≡ checked_statement c at scope
     plain-answered r h q =
         let w = went _ _ m h in
-        rw (statement-rules globals functions (reverse scope) c.table.now at n m node p)
+        rw (statement-rules globals functions (reverse scope) c.table.records.now at n m node p)
         (on (expression_rules globals functions e (reverse scope)) (block_rules globals functions ss (reverse scope)) end _
         r w.0 (omega (arith, w.1, p.whole)) q)

@@ -4,17 +4,16 @@ use Rattle.script.specs.declared.rows.Sort.TheVariants.{Declaration as Declarati
 use Rattle.script.specs.declared.record.Record.{Record}
 use Rattle.script.specs.declared.refusal.Refusal.{Refusal}
 use Rattle.script.specs.declared.refusal.Refusal.TheVariants.{DeclaredTwice}
+use Rattle.script.specs.Refusals.{unless}
 use Rattle.syntax.specs.Syntax.{VariableDeclaration, declare, Declaration, of_a_variable, of_a_function, name_of}
 use Rattle.syntax.specs.Syntax.{functions_of}
-use Rattle.syntax.specs.Trees.{Tree, tree_at, pieces, size, sizes, Leaves, no_record}
+use Rattle.syntax.specs.Trees.{Tree, tree_at, pieces, size, sizes, Leaves, no_record, Parts}
 use Rattle.syntax.specs.Typed.{variables_at, statement_at, declarations_at, make_declaration, node_kind}
-use Rattle.syntax.specs.Trees.{Parts}
 use Rattle.names.specs.declared.context.Context.{Context}
 use Rattle.syntax.proofs.Statements.{declared-first}
 use Rattle.syntax.proofs.Declarations.{FirstFunction}
 use Rattle.names.specs.declared.signature.Signature.{Signature}
-use Rattle.names.specs.Names.{Answer, ◌⨟◌, unless, declared, local_rules, parameter_rules, statement_rules}
-use Rattle.names.specs.Names.{function_rules}
+use Rattle.names.specs.Names.{Answer, ◌⨟◌, declared, local_rules, parameter_rules, statement_rules, function_rules}
 use Rattle.names.specs.Passes.{outcome, checked_locals, checked_statement, checked_functions}
 use Rattle.names.proofs.Outcomes.{last, refused, regroup, went}
 use Rattle.names.proofs.Several.{first}
@@ -47,31 +46,31 @@ parameters-as-locals globals table at n scope s e =
     ∙ ap (λ (l : List ℕ). local_rules globals (variables_at table (at + 1) n) (reverse l)) (sym e))
 
 -- A function alone, whose parameters are declared on an empty scope.
-module _ (c : Context) (at n m e : ℕ) (r : Record) (p : FirstFunction c.table.now at 1 n m e r) (scope : List ℕ)
+module _ (c : Context) (at n m e : ℕ) (r : Record) (p : FirstFunction c.table.records.now at 1 n m e r) (scope : List ℕ)
     (none : scope ≡ []) where
   abbrev xs : List VariableDeclaration
-  xs = variables_at c.table.now (at + 1) n
+  xs = variables_at c.table.records.now (at + 1) n
 
   abbrev parameters : Answer
   parameters = local_rules (reverse c.globals.now) xs (reverse scope)
 
   abbrev body : Answer
-  body = statement_rules (reverse c.globals.now) c.functions.now (statement_at c.table.now m) (reverse (map name_of xs))
+  body = statement_rules (reverse c.globals.now) c.functions.now (statement_at c.table.records.now m) (reverse (map name_of xs))
 
   same : parameter_rules (reverse c.globals.now) (map name_of xs) (suc at) [] ≡ parameters
-  same = parameters-as-locals (reverse c.globals.now) c.table.now at n scope p.function.parameters none
+  same = parameters-as-locals (reverse c.globals.now) c.table.records.now at n scope p.function.parameters none
 
   pub parameters-refused : (y : Refusal) → Err y ≡ checked_locals c n (at + 1) scope → Err y ≡ checked_functions c 1 at
   parameters-refused y h = rw (p.is, same) (refused parameters (body ⨟ Ok tt) _ _ y h)
 
-  pub function-answered : (inner : List ℕ) (out : Result ℕ Refusal) → e ≡ m + size (tree_at c.table.now m) →
+  pub function-answered : (inner : List ℕ) (out : Result ℕ Refusal) → e ≡ m + size (tree_at c.table.records.now m) →
       Ok m ≡ checked_locals c n (at + 1) scope → inner ≡ scope ++ map name_of xs → out ≡ checked_statement c m inner →
       out ≡ checked_functions c 1 at
   function-answered inner out ends h names q =
       let w = went parameters _ m h in
       let none' : inner ≡ map name_of xs = rw none at names in
       let bound : reverse inner ≡ reverse (map name_of xs) = ap reverse none' in
-      let end : m + size (tree_at c.table.now m) ≡ at + sizes (pieces c.table.now at 1) = omega (arith, p.whole, ends) in
+      let end : m + size (tree_at c.table.records.now m) ≡ at + sizes (pieces c.table.records.now at 1) = omega (arith, p.whole, ends) in
       rw (p.is, same, w.0, last body) (rw (bound, end) at q)
 
 -- A variable alone.
@@ -91,29 +90,29 @@ module _ (globals : List ℕ) (functions : List Signature) where
       let c : Answer = function_rules globals functions (functions_of ds) in
       regroup a b c ∙ ap (λ (z : Answer). (a ⨟ z) ⨟ c) (sym (last b))
 
-module _ (c : Context) (at n : ℕ) (k : 0 < n) (parts : Parts c.table.now at n DeclarationSort) where
+module _ (c : Context) (at n : ℕ) (k : 0 < n) (parts : Parts c.table.records.now at n DeclarationSort) where
   rules : List Declaration → Answer
   rules ds = function_rules (reverse c.globals.now) c.functions.now (functions_of ds)
 
-  split : (m : ℕ) → m ≡ at + sizes (pieces c.table.now at 1) →
-      rules (declarations_at c.table.now at n)
-      ≡ rules (declarations_at c.table.now at 1) ⨟ rules (declarations_at c.table.now m (n - 1))
+  split : (m : ℕ) → m ≡ at + sizes (pieces c.table.records.now at 1) →
+      rules (declarations_at c.table.records.now at n)
+      ≡ rules (declarations_at c.table.records.now at 1) ⨟ rules (declarations_at c.table.records.now m (n - 1))
   unfolding rules
   split m e =
-      let p = first c.table.now at n m DeclarationSort k parts e in
-      let t : Tree = tree_at c.table.now at in
+      let p = first c.table.records.now at n m DeclarationSort k parts e in
+      let t : Tree = tree_at c.table.records.now at in
       rw (p.parts, p.alone)
       (in-order (reverse c.globals.now) c.functions.now (make_declaration (node_kind t) t)
-      (declarations_at c.table.now m (n - 1)))
+      (declarations_at c.table.records.now m (n - 1)))
 
   pub functions-refused : (y : Refusal) → Err y ≡ checked_functions c 1 at → Err y ≡ checked_functions c n at
   unfolding rules
   functions-refused y h =
-      rw (split (at + sizes (pieces c.table.now at 1)) refl) (refused (rules (declarations_at c.table.now at 1)) _ _ _ y h)
+      rw (split (at + sizes (pieces c.table.records.now at 1)) refl) (refused (rules (declarations_at c.table.records.now at 1)) _ _ _ y h)
 
   pub functions-done : (m : ℕ) → Ok m ≡ checked_functions c 1 at → checked_functions c (n - 1) m ≡ checked_functions c n at
   unfolding rules
   functions-done m h =
-      let w = went (rules (declarations_at c.table.now at 1)) _ m h in
-      let p = first c.table.now at n m DeclarationSort k parts w.1 in
+      let w = went (rules (declarations_at c.table.records.now at 1)) _ m h in
+      let p = first c.table.records.now at n m DeclarationSort k parts w.1 in
       rw (split m w.1, w.0, p.whole) refl

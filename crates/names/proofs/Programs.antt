@@ -1,22 +1,22 @@
 -- The rules of a whole program, one pass after another.
 use Rattle.std.proofs.Common.{◌≡◌, ℕ, ◌<◌, leb, max, List, [], ◌++◌, map, reverse, length, get_or, Ok, Err, sym, refl, ap, ◌∙◌, arith}
 use lib.ListN.{length-map}
-use Rattle.script.specs.declared.rows.Sort.TheVariants.{Program as ProgramSort}
 use Rattle.script.specs.declared.record.Record.{Record}
 use Rattle.script.specs.declared.refusal.Refusal.{Refusal}
 use Rattle.script.specs.declared.refusal.Refusal.TheVariants.{FrameNeed}
+use Rattle.script.specs.Refusals.{unless}
 use Rattle.syntax.specs.Syntax.{Program, Declaration, name_of, variables_of, functions_of, globals_of, global_names}
-use Rattle.syntax.specs.Trees.{tree_at, no_record, Sound}
 use Rattle.syntax.specs.Typed.{statement_at, declarations_at, program_of}
-use Rattle.syntax.proofs.Declarations.{programmed}
 use Rattle.syntax.proofs.Statements.{bound}
 use Rattle.names.specs.declared.frame.Measured.{Measured}
 use Rattle.names.specs.declared.signature.Signature.{Signature}
+use Rattle.names.specs.declared.sound.SoundTable.{SoundTable}
 use Rattle.names.specs.Need.{largest_need, need_statement, need_functions}
-use Rattle.names.specs.Names.{Answer, ◌⨟◌, unless, signature, global_rules, function_rules, statement_rules, name_rules}
+use Rattle.names.specs.Names.{Answer, ◌⨟◌, signature, global_rules, function_rules, statement_rules, name_rules}
 use Rattle.names.specs.Passes.{outcome, checked_globals}
 use Rattle.names.specs.Tables.{main_at, checked_names}
 use Rattle.names.proofs.Outcomes.{refused, regroup, went}
+use Rattle.names.proofs.SoundTables.{table, many, program}
 
 -- The global names, oldest first and newest first.
 pub global-names : (p : Program) → reverse (map name_of (globals_of p)) ≡ global_names p
@@ -29,34 +29,28 @@ pub record Found (p : Program) (found : Measured) (globals : List ℕ) (function
   pub signatures : functions ≡ map signature (functions_of p.declarations)
   pub need : found.words ≡ need_functions (functions_of p.declarations)
 
--- A table that has a program, and that pass over it from two empty stacks.
-module _ (table : List Record) (some : 0 < length table) (sound : Sound (tree_at table 0) ProgramSort) where
-  abbrev many : ℕ
-  many = (get_or table 0 no_record).a
-
+-- A sound table, and that pass over it from two empty stacks.
+module _ (t : SoundTable) where
   abbrev ds : List Declaration
-  ds = declarations_at table 1 many
+  ds = declarations_at (table t) 1 (many t)
 
-  are-declared : ds ≡ (program_of table).declarations
-  are-declared =
-      ap (λ (q : Program). q.declarations)
-      (sym (programmed table many (main_at table) no_record some sound refl refl).is)
+  are-declared : ds ≡ (program_of (table t)).declarations
+  are-declared = ap (λ (q : Program). q.declarations) (sym (program t (main_at (table t)) refl).is)
 
-  pub need-of-main : (m : ℕ) → m ≡ main_at table →
-      need_statement (statement_at table m) ≡ need_statement (program_of table).main
-  need-of-main m e =
-      ap (λ (q : Program). need_statement q.main) (sym (programmed table many m no_record some sound refl e).is)
+  pub need-of-main : (m : ℕ) → m ≡ main_at (table t) →
+      need_statement (statement_at (table t) m) ≡ need_statement (program_of (table t)).main
+  need-of-main m e = ap (λ (q : Program). need_statement q.main) (sym (program t m e).is)
 
   module _ (names : List ℕ) (called : List Signature) (no_name : names ≡ []) (no-function : called ≡ []) where
-    rules : global_rules ds (reverse names) called ≡ global_rules (program_of table).declarations [] []
+    rules : global_rules ds (reverse names) called ≡ global_rules (program_of (table t)).declarations [] []
     rules = rw (are-declared, no_name, no-function) refl
 
-    pub globals-refused : (y : Refusal) → Err y ≡ checked_globals table many 1 names called → Err y ≡ checked_names table
-    globals-refused y h = refused (global_rules (program_of table).declarations [] []) _ _ _ y (rw rules at h)
+    pub globals-refused : (y : Refusal) → Err y ≡ checked_globals (table t) (many t) 1 names called → Err y ≡ checked_names (table t)
+    globals-refused y h = refused (global_rules (program_of (table t)).declarations [] []) _ _ _ y (rw rules at h)
 
     pub globals-found : (found : Measured) (globals : List ℕ) (functions : List Signature) →
-        Ok found ≡ checked_globals table many 1 names called → globals ≡ names ++ map name_of (variables_of ds) →
-        functions ≡ called ++ map signature (functions_of ds) → Found (program_of table) found globals functions
+        Ok found ≡ checked_globals (table t) (many t) 1 names called → globals ≡ names ++ map name_of (variables_of ds) →
+        functions ≡ called ++ map signature (functions_of ds) → Found (program_of (table t)) found globals functions
     globals-found found globals functions h eg ef =
         let w = went (global_rules ds (reverse names) called) _ found h in
         record {

@@ -5,10 +5,11 @@ use Rattle.stack.specs.declared.Stack.{Stack}
 use Rattle.stack.specs.Store.{contents}
 use Rattle.script.specs.declared.refusal.Refusal.{Refusal}
 use Rattle.script.specs.declared.refusal.Refusal.TheVariants.{DeclaredTwice}
+use Rattle.script.specs.Refusals.{unless}
 use Rattle.syntax.specs.Syntax.{VariableDeclaration, declare, Statement, Statements, name_of, bind_names}
 use Rattle.syntax.proofs.Statements.{bound}
 use Rattle.names.specs.declared.signature.Signature.{Signature}
-use Rattle.names.specs.Names.{Answer, unless, local_rules, statement_rules, block_rules, declared}
+use Rattle.names.specs.Names.{Answer, local_rules, statement_rules, block_rules, declared}
 use Rattle.names.specs.Passes.{outcome}
 use Rattle.names.proofs.Outcomes.{refused-own, on}
 

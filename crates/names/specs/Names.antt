@@ -2,10 +2,12 @@
 use Rattle.std.specs.Prelude.{ℕ, suc, Bool, true, false, cond, not, ◌||◌, List, [], ◌∷◌, ◌++◌, map, reverse, length, is_some, Ok, Err, Result, ◌==◌, nat_le}
 use Rattle.script.specs.declared.refusal.Refusal.{Refusal}
 use Rattle.script.specs.declared.refusal.Refusal.TheVariants.{DeclaredTwice, Undeclared, ArgumentCount, FrameNeed}
-use Rattle.syntax.specs.Syntax.{VariableDeclaration, declare, Expression, constant, variable, binary, assign, call, bay_read, bay_write}
-use Rattle.syntax.specs.Syntax.{Arguments, no_argument, argument, Statement, evaluate, if_else, while, give_back, block}
-use Rattle.syntax.specs.Syntax.{Statements, no_statement, then, Function, Declaration, of_a_variable, of_a_function, Program}
-use Rattle.syntax.specs.Syntax.{bind_names, argument_count, locate, functions_of, global_names}
+use Rattle.script.specs.Refusals.{unless}
+use Rattle.syntax.specs.Syntax.{VariableDeclaration, declare, Expression, constant, variable, binary, assign, call}
+use Rattle.syntax.specs.Syntax.{bay_read, bay_write, Arguments, no_argument, argument, Statement, evaluate, if_else}
+use Rattle.syntax.specs.Syntax.{while, give_back, block, Statements, no_statement, then, Function, Declaration}
+use Rattle.syntax.specs.Syntax.{of_a_variable, of_a_function, Program, bind_names, argument_count, locate, functions_of}
+use Rattle.syntax.specs.Syntax.{global_names}
 use Rattle.names.specs.declared.signature.Signature.{Signature}
 use Rattle.names.specs.Need.{largest_need}
 
@@ -17,9 +19,6 @@ Answer = Result (Unit {0}) Refusal
 abbrev pub ◌⨟◌ : Answer → Answer → Answer
 Ok u ⨟ next = next
 Err e ⨟ next = Err e
-
-abbrev pub unless : Bool → Refusal → Answer
-unless b e = cond b (Ok tt) (Err e)
 
 abbrev pub signature : Function → Signature
 signature f = record { name = f.name; count = length f.parameters; place = f.place }

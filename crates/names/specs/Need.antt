@@ -1,7 +1,7 @@
 -- Frame need: how many words one frame uses at most, its parameters and locals among them.
 use Rattle.std.specs.Prelude.{ℕ, suc, ◌+◌, max, List, [], ◌∷◌, length}
-use Rattle.syntax.specs.Syntax.{Expression, constant, variable, binary, assign, call, bay_read, bay_write}
-use Rattle.syntax.specs.Syntax.{Arguments, no_argument, argument, Statement, evaluate, if_else, while, give_back, block}
+use Rattle.syntax.specs.Syntax.{Expression, constant, variable, binary, assign, call, bay_read, bay_write, Arguments}
+use Rattle.syntax.specs.Syntax.{no_argument, argument, Statement, evaluate, if_else, while, give_back, block}
 use Rattle.syntax.specs.Syntax.{Statements, no_statement, then, Function, Program, functions_of}
 
 -- A second part runs on top of the first part's word. Argument i, counted from 0, runs on top of i words.

@@ -1,7 +1,7 @@
 -- A program whose names are in order, in words of its own: which names differ, and which are declared where they are used.
 use Rattle.std.specs.Prelude.{◌≡◌, ℕ, ◌≤◌, ◌⊎◌, List, [], ◌∷◌, map, reverse, length, Some, None, Option}
-use Rattle.syntax.specs.Syntax.{Expression, constant, variable, binary, assign, call, bay_read, bay_write}
-use Rattle.syntax.specs.Syntax.{Arguments, no_argument, argument, Statement, evaluate, if_else, while, give_back, block}
+use Rattle.syntax.specs.Syntax.{Expression, constant, variable, binary, assign, call, bay_read, bay_write, Arguments}
+use Rattle.syntax.specs.Syntax.{no_argument, argument, Statement, evaluate, if_else, while, give_back, block}
 use Rattle.syntax.specs.Syntax.{Statements, no_statement, then, Function, Program, name_of, bind_names, argument_count}
 use Rattle.syntax.specs.Syntax.{function_named, functions_of, globals_of, global_names}
 use Rattle.names.specs.Need.{largest_need}

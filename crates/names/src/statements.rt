@@ -4,13 +4,12 @@ ghost use Rattle.std.specs.Prelude.{◌≡◌, ◌+◌, ◌≤◌, ◌++◌, map
 ghost use Rattle.stack.specs.Store.{contents, capacity};
 ghost use Rattle.script.specs.declared.rows.Sort.TheVariants.{Statement};
 ghost use Rattle.syntax.specs.Syntax.{name_of};
-ghost use Rattle.syntax.specs.Trees.{pieces, Leaves, Part};
+ghost use Rattle.syntax.specs.Trees.{LeafParts, Part, Parts};
 ghost use Rattle.syntax.specs.Typed.{variables_at};
-ghost use Rattle.syntax.specs.Trees.{Parts};
 ghost use Rattle.names.specs.Passes.{checked_locals, checked_statement, checked_statements, Kept};
 
 use crate::context::Context;
-use script::Refusal;
+use script::refusal::{Refusal, unless};
 use script::rows::NodeKind;
 use stack::Stack;
 use syntax::parts::{node_kind, statement_count};
@@ -31,21 +30,20 @@ impl Context<'_> {
         at: usize,
         scope: &mut Stack<'_, u16>,
     ) -> Result<usize, Refusal>
-        requires within { at + count ≤ length self.now.table.now }
-        requires sound { Leaves count (pieces self.now.table.now at count) }
+        requires parts { LeafParts self.now.table.records.now at count }
         requires room { scope.old.height + count ≤ capacity scope.old }
         ensures answer { result ≡ checked_locals self.now count at (contents scope.old) }
         ensures bound { IfOk result
             (λ _. contents scope.new
-            ≡ contents scope.old ++ map name_of (variables_at self.now.table.now at count)) }
+            ≡ contents scope.old ++ map name_of (variables_at self.now.table.records.now at count)) }
         ensures height { OnOk result (scope.new.height ≡ scope.old.height + count) }
         ensures store { capacity scope.new ≡ capacity scope.old }
     {
         let end = at + count;
-        for place in at..end {
-            let name = self.table[place].a;
-            self.check_new(name, place, scope.live())?;
-            scope.push(name);
+        for (index, node) in self.table.records[at..end].iter().enumerate() {
+            let known = self.is_declared(node.a, scope.live());
+            unless(!known, Refusal::DeclaredTwice(at + index))?;
+            scope.push(node.a);
         }
         Ok(end)
     }
@@ -53,12 +51,12 @@ impl Context<'_> {
     // The statement at `at`: the index after it. A block's locals are in scope up to its end.
     #[cycle(statement_statements)]
     pub(crate) fn statement(&self, at: usize, scope: &mut Stack<'_, u16>) -> Result<usize, Refusal>
-        requires part { Part self.now.table.now at Statement }
-        requires room { scope.old.height + length self.now.table.now ≤ capacity scope.old + at }
+        requires part { Part self.now.table.records.now at Statement }
+        requires room { scope.old.height + length self.now.table.records.now ≤ capacity scope.old + at }
         ensures answer { result ≡ checked_statement self.now at (contents scope.old) }
         ensures scope { Kept result scope.old scope.new }
     {
-        let node = self.table[at];
+        let node = self.table.records[at];
         let count = statement_count(node);
         match node_kind(node) {
             NodeKind::Block => {
@@ -83,8 +81,8 @@ impl Context<'_> {
         at: usize,
         scope: &mut Stack<'_, u16>,
     ) -> Result<usize, Refusal>
-        requires parts { Parts self.now.table.now at count Statement }
-        requires room { scope.old.height + length self.now.table.now ≤ capacity scope.old + at }
+        requires parts { Parts self.now.table.records.now at count Statement }
+        requires room { scope.old.height + length self.now.table.records.now ≤ capacity scope.old + at }
         ensures answer { result ≡ checked_statements self.now count at (contents scope.old) }
         ensures scope { Kept result scope.old scope.new }
     {

@@ -4,7 +4,7 @@ use Rattle.std.specs.List.{slice_get}
 use Rattle.std.proofs.lemmas.Bool.{lt-ltb, le-ltb, ltb-true}
 use Rattle.racks.specs.declared.rack.BayFault.{BayFault}
 use Rattle.racks.specs.declared.rack.BayFault.TheVariants.{NoSuchBay, CannotHold}
-use Rattle.racks.specs.Writes.{write_answer, written}
+use Rattle.racks.specs.Writes.{answer_of, write_answer, written}
 use Rattle.racks.specs.WriteLaws.{WriteLaws}
 
 slice_get-set_same : {W : Type 0} (xs : List W) (i : ℕ) (w : W) → i < length xs → slice_get (set xs i w) i ≡ Some w
@@ -21,19 +21,16 @@ slice_get-set_other (x ∷ xs) (suc i) w (suc j) apart = slice_get-set_other xs 
 
 -- ---- by the two tests of a write: is there such a bay, and can it hold the word
 
-abbrev answer-of : Bool → Bool → Result (Unit {0}) BayFault
-answer-of within held = cond within (cond held (Ok tt) (Err CannotHold)) (Err NoSuchBay)
-
 kept : {A : Type 0} (within held : Bool) (fault : BayFault) (new old : A)
-    → answer-of within held ≡ Err fault → cond (within && held) new old ≡ old
-kept true true fault new old refused = let clash : ◌≡◌ {A = ℕ} 0 1 = cc in absurd (omega arith)
+    → answer_of within held ≡ Err fault → cond (within && held) new old ≡ old
+kept true true fault new old refused = absurd cc
 kept true false fault new old refused = refl
 kept false held fault new old refused = refl
 
-both : (within held : Bool) → answer-of within held ≡ Ok tt → (within ≡ true) × (held ≡ true)
+both : (within held : Bool) → answer_of within held ≡ Ok tt → (within ≡ true) × (held ≡ true)
 both true true took = (refl, refl)
-both true false took = let clash : ◌≡◌ {A = ℕ} 0 1 = cc in absurd (omega arith)
-both false held took = let clash : ◌≡◌ {A = ℕ} 0 1 = cc in absurd (omega arith)
+both true false took = absurd cc
+both false held took = absurd cc
 
 either : {A B : Type 0} (f : A → B) (test : Bool) (new old : A) → f new ≡ f old → f (cond test new old) ≡ f old
 either f true new old same = same

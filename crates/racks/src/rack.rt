@@ -1,10 +1,9 @@
 // What a rack is to the code above it.
-ghost use Rattle.std.specs.Prelude.{◌≡◌, ◌≤◌, Bool, cond, List, length, Ok, Err, nat_lt};
+ghost use Rattle.std.specs.Prelude.{◌≡◌, ◌≤◌, Bool, List, length, nat_lt};
 ghost use Rattle.std.specs.List.{slice_get};
-ghost use Rattle.racks.specs.declared.rack.BayFault.TheVariants.{NoSuchBay, CannotHold};
 ghost use Rattle.racks.specs.Faults.{ending_of};
 ghost use Rattle.racks.specs.Loans.{Loan};
-ghost use Rattle.racks.specs.Writes.{write_answer, written};
+ghost use Rattle.racks.specs.Writes.{answer_of, write_answer, written};
 
 use kinds::NumberKind;
 use script::Ending;
@@ -30,7 +29,7 @@ impl From<BayFault> for Ending {
 
 // Why a write is refused, if it is: that there is such a bay is tested first.
 pub(crate) fn check_write(slot: usize, length: usize, holds: bool) -> Result<(), BayFault>
-    ensures { result ≡ cond (nat_lt slot length) (cond holds (Ok tt) (Err CannotHold)) (Err NoSuchBay) }
+    ensures { result ≡ answer_of (nat_lt slot length) holds }
 {
     if slot >= length {
         return Err(BayFault::NoSuchBay);
@@ -62,7 +61,8 @@ pub trait Rack {
     fn read(&self, slot: usize) -> Option<Self::Word>
         ensures { result ≡ slice_get (bays self.now) slot };
 
-    // Puts a word into a bay, and changes nothing else; a refusal changes nothing at all.
+    // Puts a word into a bay, and changes nothing else; a refusal changes nothing at all. Each rack tests, then puts: a
+    // body here would need that put as a method of the trait, public and with a requires.
     fn write(&mut self, slot: usize, word: Self::Word) -> Result<(), BayFault>
         ensures answer { result ≡ write_answer (holds self.old) (bays self.old) slot word }
         ensures bays { bays self.new

@@ -1,5 +1,5 @@
--- What a refusal says: its number, and what it tells.
-use Rattle.std.specs.Prelude.{◌≡◌, ℕ, Ok, Err, Result}
+-- What a refusal says: its number, and what it tells. And what a test answers that refuses where it does not hold.
+use Rattle.std.specs.Prelude.{◌≡◌, ℕ, Bool, cond, Ok, Err, Result}
 use Rattle.script.specs.declared.refusal.Refusal.{Refusal}
 use Rattle.script.specs.declared.refusal.Refusal.TheVariants.{
   TableSize,
@@ -51,3 +51,7 @@ tells WrongState = 0
 abbrev pub RefusedWith : {A : Type 0} → Result A Refusal → ℕ → ℕ → Type 0
 RefusedWith (Ok x) n told = ⊥
 RefusedWith (Err e) n told = (number e ≡ n) × (tells e ≡ told)
+
+-- a test that passes where it holds, and is else refused so
+abbrev pub unless : Bool → Refusal → Result (Unit {0}) Refusal
+unless holds e = cond holds (Ok tt) (Err e)

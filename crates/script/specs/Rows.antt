@@ -1,5 +1,5 @@
 -- The table of kinds: what a record of each kind is, the bounds of its fields, and its parts.
-use Rattle.std.specs.Prelude.{ℕ, ◌+◌, Bool, true, false, ◌||◌, List, [], ◌∷◌, ◌++◌, replicate, ℤ, pos, negsuc, ◌==◌, nat_le, slice_index_or}
+use Rattle.std.specs.Prelude.{ℕ, ◌+◌, Bool, true, false, ◌||◌, List, [], ◌∷◌, ◌++◌, replicate, ℤ, pos, negsuc, Some, None, Option, ◌==◌, nat_le, slice_index_or}
 use Rattle.script.specs.declared.record.Record.{Record}
 use Rattle.script.specs.declared.rows.Sort.{Sort}
 use Rattle.script.specs.declared.rows.Sort.TheVariants.{
@@ -17,36 +17,43 @@ use Rattle.script.specs.declared.rows.NodeKind.{NodeKind}
 use Rattle.script.specs.declared.rows.NodeKind.TheVariants as is
 use Rattle.script.specs.declared.rows.Row.{Row}
 use Rattle.script.specs.declared.rows.Parts.{Parts}
-use Rattle.script.specs.declared.rows.Bound.{Bound}
-use Rattle.script.specs.declared.rows.Bound.TheVariants.{Any, UpTo}
 use Rattle.script.specs.declared.rows.Count.{Count}
 use Rattle.script.specs.declared.rows.Count.TheVariants.{Fixed, FieldA, FieldV}
 
+-- The bound of a field: the largest value that it may have, or none where it may have any.
 -- a field that holds a name, 0 to 255
-abbrev pub name : Bound
-name = UpTo 255
+abbrev pub name : Option ℕ
+name = Some 255
 
 -- a field without a meaning, which is 0
-abbrev pub blank : Bound
-blank = UpTo 0
+abbrev pub blank : Option ℕ
+blank = Some 0
+
+-- a field that holds any number
+abbrev pub any : Option ℕ
+any = None
 
 -- so many parts of one sort
 abbrev pub several : Count → Sort → Parts
 several n s = record { count = n; sort = s }
 
+-- no parts at all, which are no expressions
 abbrev pub none : Parts
-none = several (Fixed 0) Unknown
+none = several (Fixed 0) Expression
 
+-- one part of a sort
 abbrev pub one : Sort → Parts
 one s = several (Fixed 1) s
 
+-- two parts of a sort
 abbrev pub two : Sort → Parts
 two s = several (Fixed 2) s
 
 -- a row: the node, its sort, the bounds of the fields a and v, and the parts, first ones first
-abbrev pub row : NodeKind → Sort → Bound → Bound → Parts → Parts → Row
+abbrev pub row : NodeKind → Sort → Option ℕ → Option ℕ → Parts → Parts → Row
 row k s a v p q = record { node = k; sort = s; a = a; v = v; first = p; second = q }
 
+-- the row of a kind that no node has
 abbrev pub unknown : Row
 unknown = row is.Unknown Unknown blank blank none none
 
@@ -55,7 +62,7 @@ abbrev pub rows : List Row
 rows =
     unknown
     -- 1 number, 2 variable
-    ∷ row is.Number Expression blank Any none none
+    ∷ row is.Number Expression blank any none none
     ∷ row is.Variable Expression name blank none none
     -- 3 sum, 4 difference, 5 greater
     ∷ row (is.TwoPart Sum) Expression blank blank (two Expression) none
@@ -63,7 +70,7 @@ rows =
     ∷ row (is.TwoPart Greater) Expression blank blank (two Expression) none
     -- 6 assignment, 7 call, 8 bay read, 9 bay write
     ∷ row is.Assignment Expression name blank (one Expression) none
-    ∷ row is.Call Expression name (UpTo 15) (several FieldV Expression) none
+    ∷ row is.Call Expression name (Some 15) (several FieldV Expression) none
     ∷ row is.BayRead Expression blank blank (one Expression) none
     ∷ row is.BayWrite Expression blank blank (two Expression) none
     -- 10 to 15
@@ -73,14 +80,14 @@ rows =
     ∷ row is.If Statement blank blank (one Expression) (two Statement)
     ∷ row is.While Statement blank blank (one Expression) (one Statement)
     ∷ row is.Return Statement blank blank (one Expression) none
-    ∷ row is.Block Statement (UpTo 63) (UpTo 1023) (several FieldA Variable) (several FieldV Statement)
+    ∷ row is.Block Statement (Some 63) (Some 1023) (several FieldA Variable) (several FieldV Statement)
     -- 21 to 23
     ∷ unknown ∷ unknown ∷ unknown
     -- 24 variable declaration, 25 function, 26 parameter, 27 program
-    ∷ row is.VariableDeclaration Variable name Any none none
-    ∷ row is.Function Function name (UpTo 15) (several FieldV Parameter) (one Statement)
+    ∷ row is.VariableDeclaration Variable name any none none
+    ∷ row is.Function Function name (Some 15) (several FieldV Parameter) (one Statement)
     ∷ row is.Parameter Parameter name blank none none
-    ∷ row is.Program Program (UpTo 128) blank (several FieldA Declaration) (one Statement)
+    ∷ row is.Program Program (Some 128) blank (several FieldA Declaration) (one Statement)
     -- 28 to 31
     ∷ unknown ∷ unknown ∷ unknown ∷ unknown
     ∷ []
@@ -107,20 +114,14 @@ rank Declaration = 7
 -- May a record of the second sort stand where the first is wanted?
 -- Where a declaration is wanted, a variable declaration or a function may; else the sorts are the same.
 abbrev pub suits : Sort → Sort → Bool
-suits Unknown s = rank Unknown == rank s
-suits Expression s = rank Expression == rank s
-suits Statement s = rank Statement == rank s
-suits Variable s = rank Variable == rank s
-suits Function s = rank Function == rank s
-suits Parameter s = rank Parameter == rank s
-suits Program s = rank Program == rank s
 suits Declaration s = rank Variable == rank s || rank Function == rank s
+suits want s = rank want == rank s
 
--- is the value of a field within its bound
-abbrev pub within : Bound → ℤ → Bool
-within Any x = true
-within (UpTo most) (pos n) = nat_le n most
-within (UpTo most) (negsuc n) = false
+-- is the value of a field within its bound: any, or 0 up to the largest
+abbrev pub within : Option ℕ → ℤ → Bool
+within None x = true
+within (Some most) (pos n) = nat_le n most
+within (Some most) (negsuc n) = false
 
 -- a number, or 0 for a negative one
 abbrev pub natural : ℤ → ℕ

@@ -1,6 +1,6 @@
 // Why a call is refused.
 ghost use Rattle.std.specs.Prelude.{◌≡◌};
-ghost use Rattle.script.specs.Refusals.{number, tells};
+ghost use Rattle.script.specs.Refusals.{number, tells, unless};
 
 #[derive(Clone, Copy, PartialEq, Eq, Debug)]
 pub enum Refusal {
@@ -67,4 +67,11 @@ impl Refusal {
                 0,
         }
     }
+}
+
+// A test, and the refusal where it does not hold.
+pub fn unless(holds: bool, refusal: Refusal) -> Result<(), Refusal>
+    ensures { result ≡ unless holds refusal }
+{
+    if holds { Ok(()) } else { Err(refusal) }
 }

@@ -80,22 +80,11 @@ impl Count {
     }
 }
 
-// Which values a field may have: 0 up to a largest one, or any.
-#[derive(Clone, Copy, PartialEq, Eq, Debug)]
-pub enum Bound {
-    UpTo(u16),
-    Any,
-}
-
-impl Bound {
-    pub(crate) fn allows(self, value: i32) -> bool
-        ensures { result ≡ within self value }
-    {
-        match self {
-            Bound::Any => true,
-            Bound::UpTo(most) => (0..=i32::from(most)).contains(&value),
-        }
-    }
+// May a field have this value, whose largest is `most`?
+pub(crate) fn allows(most: Option<u16>, value: i32) -> bool
+    ensures { result ≡ within most value }
+{
+    most.is_none_or(|most| (0..=i32::from(most)).contains(&value))
 }
 
 #[derive(Clone, Copy, PartialEq, Eq, Debug)]
@@ -104,26 +93,30 @@ pub struct Parts {
     pub sort: Sort,
 }
 
-// A record's parts are its `first` parts, then its `second` parts.
+// The fields `a` and `v` are 0 up to a largest value, or any where none is the largest. A record's parts are its `first`
+// parts, then its `second` parts.
 #[derive(Clone, Copy, PartialEq, Eq, Debug)]
 pub struct Row {
     pub node: NodeKind,
     pub sort: Sort,
-    pub a: Bound,
-    pub v: Bound,
+    pub a: Option<u16>,
+    pub v: Option<u16>,
     pub first: Parts,
     pub second: Parts,
 }
 
-const NAME: Bound = Bound::UpTo(255);
+const NAME: Option<u16> = Some(255);
 
-const BLANK: Bound = Bound::UpTo(0);
+const BLANK: Option<u16> = Some(0);
 
-const ARGUMENTS: Bound = Bound::UpTo(15);
+const ANY: Option<u16> = None;
 
+const ARGUMENTS: Option<u16> = Some(15);
+
+// No parts at all are no expressions.
 const NO_PARTS: Parts = Parts {
     count: Count::Fixed(0),
-    sort: Sort::Unknown,
+    sort: Sort::Expression,
 };
 
 const ONE_EXPRESSION: Parts = Parts {
@@ -159,7 +152,7 @@ const UNKNOWN: Row = Row {
 const NUMBER: Row = Row {
     node: NodeKind::Number,
     sort: Sort::Expression,
-    v: Bound::Any,
+    v: ANY,
     ..UNKNOWN
 };
 
@@ -246,8 +239,8 @@ const RETURN: Row = Row {
 const BLOCK: Row = Row {
     node: NodeKind::Block,
     sort: Sort::Statement,
-    a: Bound::UpTo(63),
-    v: Bound::UpTo(1023),
+    a: Some(63),
+    v: Some(1023),
     first: Parts {
         count: Count::FieldA,
         sort: Sort::Variable,
@@ -262,7 +255,7 @@ const VARIABLE_DECLARATION: Row = Row {
     node: NodeKind::VariableDeclaration,
     sort: Sort::Variable,
     a: NAME,
-    v: Bound::Any,
+    v: ANY,
     ..UNKNOWN
 };
 
@@ -288,7 +281,7 @@ const PARAMETER: Row = Row {
 const PROGRAM: Row = Row {
     node: NodeKind::Program,
     sort: Sort::Program,
-    a: Bound::UpTo(128),
+    a: Some(128),
     first: Parts {
         count: Count::FieldA,
         sort: Sort::Declaration,

@@ -4,7 +4,7 @@ ghost use Rattle.script.specs.Shape.{fitting, from, shape};
 
 use crate::record::Record;
 use crate::refusal::Refusal;
-use crate::rows::{Row, Sort, row_of};
+use crate::rows::{Row, Sort, allows, row_of};
 
 const LARGEST_TABLE: usize = 1024;
 
@@ -16,7 +16,7 @@ fn fitting_row(want: Sort, node: Record, at: usize) -> Result<Row, Refusal>
     if !want.suited_by(row.sort) {
         return Err(Refusal::UnexpectedKind(at));
     }
-    if row.a.allows(i32::from(node.a)) && row.v.allows(node.v) {
+    if allows(row.a, i32::from(node.a)) && allows(row.v, node.v) {
         Ok(row)
     } else {
         Err(Refusal::FieldOutOfBounds(at))
@@ -71,7 +71,6 @@ pub fn check_shape(table: &[Record]) -> Result<(), Refusal>
 mod tests {
     use super::*;
     use crate::examples::END_BAY;
-    use std::test::Fail;
 
     const NUMBER: Record = Record {
         kind: 1,
@@ -91,47 +90,37 @@ mod tests {
         v: 0,
     };
 
-    fn refused(table: &[Record], number: u8, tells: usize) -> Result<(), Fail> {
-        let Err(refusal) = check_shape(table) else {
-            return Err(Fail::new("accepted"));
-        };
-        if refusal.number() == number && refusal.tells() == tells {
-            Ok(())
-        } else {
-            Err(Fail::new("another refusal"))
-        }
-    }
-
     #[test]
     fn end_bay_is_accepted(rt: HostRuntime) {
-        assert!(rt; check_shape(END_BAY).is_ok());
+        assert_eq!(rt; check_shape(END_BAY), Ok(()));
     }
 
     #[test]
-    fn size_is_refused() -> Result<(), Fail> {
-        refused(&[], 1, 0)?;
-        refused(&[NUMBER; 1025], 1, 0)
+    fn size_is_refused(rt: HostRuntime) {
+        assert_eq!(rt; check_shape(&[]), Err(Refusal::TableSize));
+        assert_eq!(rt; check_shape(&[NUMBER; 1025]), Err(Refusal::TableSize));
     }
 
     #[test]
-    fn unexpected_kind_is_refused() -> Result<(), Fail> {
-        refused(&[NUMBER], 2, 0)?;
+    fn unexpected_kind_is_refused(rt: HostRuntime) {
+        assert_eq!(rt; check_shape(&[NUMBER]), Err(Refusal::UnexpectedKind(0)));
         let mut table = *END_BAY;
         table[4].kind = 200;
-        refused(&table, 2, 4)
+        assert_eq!(rt; check_shape(&table), Err(Refusal::UnexpectedKind(4)));
     }
 
     #[test]
-    fn field_out_of_bounds_is_refused() -> Result<(), Fail> {
+    fn field_out_of_bounds_is_refused(rt: HostRuntime) {
         let mut table = *END_BAY;
         table[14].v = 16;
-        refused(&table, 3, 14)
+        assert_eq!(rt; check_shape(&table), Err(Refusal::FieldOutOfBounds(14)));
     }
 
     #[test]
-    fn wrong_length_is_refused() -> Result<(), Fail> {
+    fn wrong_length_is_refused(rt: HostRuntime) {
         let table = *END_BAY;
-        refused(&table[0..20], 4, 20)?;
-        refused(&[PROGRAM, RETURN, NUMBER, NUMBER], 4, 3)
+        assert_eq!(rt; check_shape(&table[0..20]), Err(Refusal::EndsEarly(20)));
+        let left_over = [PROGRAM, RETURN, NUMBER, NUMBER];
+        assert_eq!(rt; check_shape(&left_over), Err(Refusal::LeftOver(3)));
     }
 }

@@ -49,7 +49,8 @@ impl<'a, T: Copy> Stack<'a, T> {
         }
     }
 
-    /// The word at `k` above `base`, or `none` where the store has none there.
+    /// The word at `k` above `base`, or `none` where the store has none there. `get` cannot say that of a sum past the
+    /// largest index.
     pub fn get_above(&self, base: usize, k: usize, none: T) -> T
         ensures { result ≡ slice_index_or self.now.words.now (base + k) none }
     {
@@ -57,7 +58,7 @@ impl<'a, T: Copy> Stack<'a, T> {
         self.get(base.saturating_add(k), none)
     }
 
-    /// Replaces the word at `k` above `base`, where the store has one there.
+    /// Replaces the word at `k` above `base`, where the store has one there: at any two numbers, as `get_above`.
     pub fn put_above(&mut self, base: usize, k: usize, x: T)
         ensures lender { self.new.words.ghost_name ≡ self.old.words.ghost_name }
         ensures words { self.new.words.now ≡ slice_set self.old.words.now (base + k) x }

@@ -30,13 +30,13 @@ apart (u ∷ us) ws (more t ts) s = let p = apart us ws ts s.1 in ((s.0, p.0), p
 
 both_ok : (q : Result Row Refusal) (f : Row → Result ℕ Refusal) (n : ℕ) → and_then q f ≡ Ok n → (row : Row) × (q ≡ Ok row) × (f row ≡ Ok n)
 both_ok (Ok row) f n e = (row, refl, e)
-both_ok (Err x) f n e = absurd (let z : ◌≡◌ {A = ℕ} 0 1 = cc in omega arith)
+both_ok (Err x) f n e = absurd cc
 
 pub accepted : (rs : List Record) (at : ℕ) (ws : List Sort) (n : ℕ) → consume rs at ws ≡ Ok n →
     Sounds (taken (length ws) (forest at rs)) ws × (n ≡ at + sizes (taken (length ws) (forest at rs)))
 unfolding consume forest
 accepted rs at [] n e = (tt, cc (add-zero at))
-accepted [] at (w ∷ ws) n e = absurd (let z : ◌≡◌ {A = ℕ} 0 1 = cc in omega arith)
+accepted [] at (w ∷ ws) n e = absurd cc
 accepted (r ∷ rs) at (w ∷ ws) n e =
     let p = both_ok (fitting w r at) (λ row. consume rs (suc at) (wants row r ++ ws)) n e in
     let own : p.0 ≡ row_of r.kind = own_row w r at p.0 p.1 in

@@ -1,10 +1,8 @@
 -- A table whose shape is accepted is the prefix listing of its program.
-use Rattle.std.proofs.Common.{◌≡◌, ℕ, zero, suc, ◌+◌, ◌≤◌, Bool, true, false, cond, ◌&&◌, ◌||◌, T, eqb, ltb, ◌⊎◌, List, [], ◌∷◌, ◌++◌, map, length, get_or, take, replicate, ℤ, pos, negsuc, Ok, Err, Result, sym, refl, ap, ◌∙◌, subst, inl, inr, append_assoc, append-nil, arith, eqb→eq, leb→le, length-append}
+use Rattle.std.proofs.Common.{◌≡◌, ℕ, zero, suc, ◌+◌, ◌≤◌, Bool, true, false, cond, ◌&&◌, ◌||◌, T, eqb, ltb, ◌⊎◌, List, [], ◌∷◌, ◌++◌, map, length, get_or, take, replicate, ℤ, pos, negsuc, Some, None, Option, Ok, Err, Result, sym, refl, ap, ◌∙◌, subst, inl, inr, append_assoc, append-nil, arith, length-append}
 use Rattle.script.specs.declared.record.Record.{Record}
 use Rattle.script.specs.declared.refusal.Refusal.{Refusal}
 use Rattle.script.specs.declared.refusal.Refusal.TheVariants.{TableSize, FieldOutOfBounds, UnexpectedKind, LeftOver}
-use Rattle.script.specs.declared.rows.Bound.{Bound}
-use Rattle.script.specs.declared.rows.Bound.TheVariants.{Any, UpTo}
 use Rattle.script.specs.declared.rows.Row.{Row}
 use Rattle.script.specs.declared.rows.Sort.{Sort}
 use Rattle.script.specs.declared.rows.Sort.TheVariants as sort
@@ -14,7 +12,7 @@ use Rattle.script.specs.Rows.{rows, row_of, node_of, unknown, suits, wants, with
 use Rattle.script.specs.Sequence.{and_then}
 use Rattle.script.specs.Shape.{fields, fitting, consume, complete, shape}
 use Rattle.syntax.proofs.Accepted.{accepted}
-use Rattle.std.proofs.lemmas.Bool.{ltb-false}
+use Rattle.std.proofs.lemmas.Bool.{ltb-false, leb-true, eqb-true, and_parts}
 use Rattle.syntax.specs.Syntax.{VariableDeclaration, declare, Expression, constant, variable, binary, assign, call, bay_read, bay_write}
 use Rattle.syntax.specs.Syntax.{Arguments, argument_count, Statement, evaluate, if_else, while, give_back, block}
 use Rattle.syntax.specs.Syntax.{name_of}
@@ -69,53 +67,41 @@ abbrev numbered : ℕ → List Row → Bool
 numbered i [] = true
 numbered i (r ∷ rs) = told i r && numbered (suc i) rs
 
-and_left : (a b : Bool) → (a && b) ≡ true → a ≡ true
-and_left true b e = refl
-and_left false b e = e
-
-and_right : (a b : Bool) → (a && b) ≡ true → b ≡ true
-and_right true b e = e
-and_right false b e = absurd (let z : ◌≡◌ {A = ℕ} 0 1 = cc in omega arith)
-
 told_at : (rs : List Row) (i k : ℕ) → numbered i rs ≡ true → told (i + k) (get_or rs k unknown) ≡ true
 told_at [] i k h = refl
 told_at (r ∷ rs) i zero h =
     let e : i + 0 ≡ i = omega arith in
-    rw e (and_left (told i r) (numbered (suc i) rs) h)
+    rw e (and_parts (told i r) (numbered (suc i) rs) h).0
 told_at (r ∷ rs) i (suc k) h =
     let e : i + suc k ≡ suc i + k = omega arith in
-    rw e (told_at rs (suc i) k (and_right (told i r) (numbered (suc i) rs) h))
+    rw e (told_at rs (suc i) k (and_parts (told i r) (numbered (suc i) rs) h).1)
 
 told-kind : (k : ℕ) → told k (row_of k) ≡ true
 unfolding row_of
 told-kind k = let e : 0 + k ≡ k = omega arith in rw e at (told_at rows 0 k refl)
 
 -- What a bound leaves of a field.
-abbrev clean_name : Bound → ℕ → ℕ
-clean_name Any n = n
-clean_name (UpTo zero) n = 0
-clean_name (UpTo (suc m)) n = n
+abbrev clean_name : Option ℕ → ℕ → ℕ
+clean_name None n = n
+clean_name (Some zero) n = 0
+clean_name (Some (suc m)) n = n
 
-abbrev clean_value : Bound → ℤ → ℤ
-clean_value Any x = x
-clean_value (UpTo zero) x = pos 0
-clean_value (UpTo (suc m)) x = pos (natural x)
+abbrev clean_value : Option ℕ → ℤ → ℤ
+clean_value None x = x
+clean_value (Some zero) x = pos 0
+clean_value (Some (suc m)) x = pos (natural x)
 
-tests : (b : Bool) → b ≡ true → T b
-tests true e = tt
-tests false e = absurd (let z : ◌≡◌ {A = ℕ} 0 1 = cc in omega arith)
+clean-name : (b : Option ℕ) (n : ℕ) → within b (pos n) ≡ true → n ≡ clean_name b n
+clean-name None n h = refl
+clean-name (Some zero) n h = let l : n ≤ 0 = leb-true n 0 h in omega arith
+clean-name (Some (suc m)) n h = refl
 
-clean-name : (b : Bound) (n : ℕ) → within b (pos n) ≡ true → n ≡ clean_name b n
-clean-name Any n h = refl
-clean-name (UpTo zero) n h = let l : n ≤ 0 = leb→le n 0 (tests _ h) in omega arith
-clean-name (UpTo (suc m)) n h = refl
-
-clean-value : (b : Bound) (x : ℤ) → within b x ≡ true → x ≡ clean_value b x
-clean-value Any x h = refl
-clean-value (UpTo zero) (pos n) h = let l : n ≤ 0 = leb→le n 0 (tests _ h) in ap pos (omega arith)
-clean-value (UpTo zero) (negsuc n) h = absurd (tests _ h)
-clean-value (UpTo (suc m)) (pos n) h = refl
-clean-value (UpTo (suc m)) (negsuc n) h = absurd (tests _ h)
+clean-value : (b : Option ℕ) (x : ℤ) → within b x ≡ true → x ≡ clean_value b x
+clean-value None x h = refl
+clean-value (Some zero) (pos n) h = let l : n ≤ 0 = leb-true n 0 h in ap pos (omega arith)
+clean-value (Some zero) (negsuc n) h = absurd cc
+clean-value (Some (suc m)) (pos n) h = refl
+clean-value (Some (suc m)) (negsuc n) h = absurd cc
 
 -- The record that the listing of a node writes, given a record of that kind.
 abbrev record_for : NodeKind → Record → Record
@@ -127,26 +113,23 @@ in_bounds w r p q e = go (suits w (row_of r.kind).sort) (fields (row_of r.kind) 
   where
     go : (a b : Bool) → cond a (cond b (Ok (row_of r.kind)) (Err (FieldOutOfBounds p))) (Err (UnexpectedKind p)) ≡ Ok q → b ≡ true
     go true true z = refl
-    go true false z = absurd (let y : ◌≡◌ {A = ℕ} 0 1 = cc in omega arith)
-    go false b z = absurd (let y : ◌≡◌ {A = ℕ} 0 1 = cc in omega arith)
+    go true false z = absurd cc
+    go false b z = absurd cc
 
 number_is : (r : Record) → suits sort.Unknown (row_for (node_of r.kind)).sort ≡ false → kind_number (node_of r.kind) ≡ r.kind
 number_is r u =
     let h : told r.kind (row_of r.kind) ≡ true = told-kind r.kind in
     let u' : suits sort.Unknown (row_of r.kind).sort ≡ false = ap (λ (z : Row). suits sort.Unknown z.sort) (row_is r.kind) ∙ u in
-    let k : eqb (kind_number (row_of r.kind).node) r.kind ≡ true = rw u' at h in
-    eqb-true-eq k
-  where
-    eqb-true-eq : {m n : ℕ} → eqb m n ≡ true → m ≡ n
-    eqb-true-eq {m} {n} e = eqb→eq m n (tests _ e)
+    eqb-true (kind_number (row_of r.kind).node) r.kind (rw u' at h)
 
 own-record : (w : Sort) (r : Record) (p : ℕ) (q : Row) → fitting w r p ≡ Ok q →
     suits sort.Unknown (row_for (node_of r.kind)).sort ≡ false → r ≡ record_for (node_of r.kind) r
 own-record w r p q e u =
     let f : fields (row_for (node_of r.kind)) r ≡ true = ap (λ (z : Row). fields z r) (sym (row_is r.kind)) ∙ in_bounds w r p q e in
     let row : Row = row_for (node_of r.kind) in
-    let a : r.a ≡ clean_name row.a r.a = clean-name row.a r.a (and_left (within row.a (pos r.a)) (within row.v r.v) f) in
-    let v : r.v ≡ clean_value row.v r.v = clean-value row.v r.v (and_right (within row.a (pos r.a)) (within row.v r.v) f) in
+    let both = and_parts (within row.a (pos r.a)) (within row.v r.v) f in
+    let a : r.a ≡ clean_name row.a r.a = clean-name row.a r.a both.0 in
+    let v : r.v ≡ clean_value row.v r.v = clean-value row.v r.v both.1 in
     let k : r.kind ≡ kind_number (node_of r.kind) = sym (number_is r u) in
     λ t. record { kind = k t; a = a t; v = v t }
 
@@ -282,8 +265,8 @@ known-statement = by-statement (λ q. suits sort.Unknown (row_for q).sort ≡ fa
 block-or-not : (q : NodeKind) → T (suits sort.Statement (row_for q).sort) → (q ≡ is.Block) ⊎ (q ≡ is.Block → ⊥)
 block-or-not =
     by-statement (λ q. (q ≡ is.Block) ⊎ (q ≡ is.Block → ⊥))
-    (inr (λ e. absurd (let z : ◌≡◌ {A = ℕ} 0 1 = cc in omega arith))) (inr (λ e. absurd (let z : ◌≡◌ {A = ℕ} 0 1 = cc in omega arith)))
-    (inr (λ e. absurd (let z : ◌≡◌ {A = ℕ} 0 1 = cc in omega arith))) (inr (λ e. absurd (let z : ◌≡◌ {A = ℕ} 0 1 = cc in omega arith)))
+    (inr (λ e. absurd cc)) (inr (λ e. absurd cc))
+    (inr (λ e. absurd cc)) (inr (λ e. absurd cc))
     (inl refl)
 
 -- What the trees of a block's parts list: k declarations, then n statements.
@@ -499,14 +482,14 @@ consumed table e = go (eqb (length table) 0) (ltb 1024 (length table)) (le_from 
     le_from t h = ltb-false 1024 (length t) h
 
     ends : (n : ℕ) (b : Bool) → ltb n (length table) ≡ b → ◌≡◌ {A = Result (Unit {0}) Refusal} (cond b (Err (LeftOver n)) (Ok tt)) (Ok tt) → length table ≤ n
-    ends n true h z = absurd (let y : ◌≡◌ {A = ℕ} 0 1 = cc in omega arith)
+    ends n true h z = absurd cc
     ends n false h z = ltb-false n (length table) h
 
     go : (a b : Bool) → (b ≡ false → length table ≤ 1024) → (q : Result ℕ Refusal) → consume table 0 (sort.Program ∷ []) ≡ q →
         ◌≡◌ {A = Result (Unit {0}) Refusal} (cond (a || b) (Err TableSize) (and_then q (complete table))) (Ok tt) → Consumed table
-    go true b l q h z = absurd (let y : ◌≡◌ {A = ℕ} 0 1 = cc in omega arith)
-    go false true l q h z = absurd (let y : ◌≡◌ {A = ℕ} 0 1 = cc in omega arith)
-    go false false l (Err x) h z = absurd (let y : ◌≡◌ {A = ℕ} 0 1 = cc in omega arith)
+    go true b l q h z = absurd cc
+    go false true l q h z = absurd cc
+    go false false l (Err x) h z = absurd cc
     go false false l (Ok n) h z =
         let a = accepted table 0 (sort.Program ∷ []) n h in
         let f : Forest = forest 0 table in

@@ -1,36 +1,35 @@
 -- The row of each kind of record, and the kinds that may stand where a sort is wanted.
-use Rattle.std.proofs.Common.{◌≡◌, ℕ, zero, suc, Bool, true, false, cond, T, List, [], ◌∷◌, map, get_or, Ok, Err, refl, subst, arith}
+use Rattle.std.proofs.Common.{◌≡◌, ℕ, zero, suc, Bool, true, false, cond, T, List, [], ◌∷◌, map, get_or, Some, Ok, Err, refl, subst}
 use Rattle.script.specs.declared.record.Record.{Record}
 use Rattle.script.specs.declared.refusal.Refusal.TheVariants.{FieldOutOfBounds, UnexpectedKind}
 use Rattle.script.specs.declared.rows.Row.{Row}
 use Rattle.script.specs.declared.rows.Sort.{Sort}
 use Rattle.script.specs.declared.rows.Sort.TheVariants.{Expression, Statement, Variable, Function, Parameter, Program, Declaration}
-use Rattle.script.specs.declared.rows.Bound.TheVariants.{Any, UpTo}
 use Rattle.script.specs.declared.rows.Count.TheVariants.{FieldA, FieldV}
 use Rattle.script.specs.declared.rows.Operator.{Operator}
 use Rattle.script.specs.declared.rows.NodeKind.{NodeKind}
 use Rattle.script.specs.declared.rows.NodeKind.TheVariants as is
-use Rattle.script.specs.Rows.{rows, row_of, node_of, row, none, one, two, several, name, blank, unknown, suits}
+use Rattle.script.specs.Rows.{rows, row_of, node_of, row, none, one, two, several, name, blank, any, unknown, suits}
 use Rattle.script.specs.Shape.{fitting, fields}
 
 -- The row that says a kind.
 abbrev pub row_for : NodeKind → Row
-row_for is.Number = row is.Number Expression blank Any none none
+row_for is.Number = row is.Number Expression blank any none none
 row_for is.Variable = row is.Variable Expression name blank none none
 row_for (is.TwoPart o) = row (is.TwoPart o) Expression blank blank (two Expression) none
 row_for is.Assignment = row is.Assignment Expression name blank (one Expression) none
-row_for is.Call = row is.Call Expression name (UpTo 15) (several FieldV Expression) none
+row_for is.Call = row is.Call Expression name (Some 15) (several FieldV Expression) none
 row_for is.BayRead = row is.BayRead Expression blank blank (one Expression) none
 row_for is.BayWrite = row is.BayWrite Expression blank blank (two Expression) none
 row_for is.ExpressionStatement = row is.ExpressionStatement Statement blank blank (one Expression) none
 row_for is.If = row is.If Statement blank blank (one Expression) (two Statement)
 row_for is.While = row is.While Statement blank blank (one Expression) (one Statement)
 row_for is.Return = row is.Return Statement blank blank (one Expression) none
-row_for is.Block = row is.Block Statement (UpTo 63) (UpTo 1023) (several FieldA Variable) (several FieldV Statement)
-row_for is.VariableDeclaration = row is.VariableDeclaration Variable name Any none none
-row_for is.Function = row is.Function Function name (UpTo 15) (several FieldV Parameter) (one Statement)
+row_for is.Block = row is.Block Statement (Some 63) (Some 1023) (several FieldA Variable) (several FieldV Statement)
+row_for is.VariableDeclaration = row is.VariableDeclaration Variable name any none none
+row_for is.Function = row is.Function Function name (Some 15) (several FieldV Parameter) (one Statement)
 row_for is.Parameter = row is.Parameter Parameter name blank none none
-row_for is.Program = row is.Program Program (UpTo 128) blank (several FieldA Declaration) (one Statement)
+row_for is.Program = row is.Program Program (Some 128) blank (several FieldA Declaration) (one Statement)
 row_for is.Unknown = unknown
 
 abbrev own_row : Row → Row
@@ -52,7 +51,7 @@ suited w r p q e = subst (λ (z : Row). T (suits w z.sort)) (row_is r.kind) (go 
   where
     go : (b : Bool) → cond b (cond (fields (row_of r.kind) r) (Ok (row_of r.kind)) (Err (FieldOutOfBounds p))) (Err (UnexpectedKind p)) ≡ Ok q → T b
     go true z = tt
-    go false z = absurd (let y : ◌≡◌ {A = ℕ} 0 1 = cc in omega arith)
+    go false z = absurd cc
 
 -- What holds of each kind of expression holds of every kind that suits one, and so on for the other sorts.
 pub by-expression : (P : NodeKind → Type 0) → P is.Number → P is.Variable → ((o : Operator) → P (is.TwoPart o)) →
@@ -64,16 +63,7 @@ by-expression P n v t a c r w is.Assignment i = a
 by-expression P n v t a c r w is.Call i = c
 by-expression P n v t a c r w is.BayRead i = r
 by-expression P n v t a c r w is.BayWrite i = w
-by-expression P n v t a c r w is.ExpressionStatement i = absurd i
-by-expression P n v t a c r w is.If i = absurd i
-by-expression P n v t a c r w is.While i = absurd i
-by-expression P n v t a c r w is.Return i = absurd i
-by-expression P n v t a c r w is.Block i = absurd i
-by-expression P n v t a c r w is.VariableDeclaration i = absurd i
-by-expression P n v t a c r w is.Function i = absurd i
-by-expression P n v t a c r w is.Parameter i = absurd i
-by-expression P n v t a c r w is.Program i = absurd i
-by-expression P n v t a c r w is.Unknown i = absurd i
+by-expression P n v t a c r w other i = absurd i
 
 pub by-statement : (P : NodeKind → Type 0) → P is.ExpressionStatement → P is.If → P is.While → P is.Return → P is.Block →
     (q : NodeKind) → T (suits Statement (row_for q).sort) → P q
@@ -82,38 +72,13 @@ by-statement P s c w r b is.If i = c
 by-statement P s c w r b is.While i = w
 by-statement P s c w r b is.Return i = r
 by-statement P s c w r b is.Block i = b
-by-statement P s c w r b is.Number i = absurd i
-by-statement P s c w r b is.Variable i = absurd i
-by-statement P s c w r b (is.TwoPart o) i = absurd i
-by-statement P s c w r b is.Assignment i = absurd i
-by-statement P s c w r b is.Call i = absurd i
-by-statement P s c w r b is.BayRead i = absurd i
-by-statement P s c w r b is.BayWrite i = absurd i
-by-statement P s c w r b is.VariableDeclaration i = absurd i
-by-statement P s c w r b is.Function i = absurd i
-by-statement P s c w r b is.Parameter i = absurd i
-by-statement P s c w r b is.Program i = absurd i
-by-statement P s c w r b is.Unknown i = absurd i
+by-statement P s c w r b other i = absurd i
 
 pub by-declaration : (P : NodeKind → Type 0) → P is.VariableDeclaration → P is.Function →
     (q : NodeKind) → T (suits Declaration (row_for q).sort) → P q
 by-declaration P v f is.VariableDeclaration i = v
 by-declaration P v f is.Function i = f
-by-declaration P v f is.ExpressionStatement i = absurd i
-by-declaration P v f is.If i = absurd i
-by-declaration P v f is.While i = absurd i
-by-declaration P v f is.Return i = absurd i
-by-declaration P v f is.Block i = absurd i
-by-declaration P v f is.Number i = absurd i
-by-declaration P v f is.Variable i = absurd i
-by-declaration P v f (is.TwoPart o) i = absurd i
-by-declaration P v f is.Assignment i = absurd i
-by-declaration P v f is.Call i = absurd i
-by-declaration P v f is.BayRead i = absurd i
-by-declaration P v f is.BayWrite i = absurd i
-by-declaration P v f is.Parameter i = absurd i
-by-declaration P v f is.Program i = absurd i
-by-declaration P v f is.Unknown i = absurd i
+by-declaration P v f other i = absurd i
 
 -- A sort of one kind alone.
 abbrev pub Only : Sort → NodeKind → Type 0
@@ -121,57 +86,12 @@ Only w k = (q : NodeKind) → T (suits w (row_for q).sort) → q ≡ k
 
 pub only-variable : Only Variable is.VariableDeclaration
 only-variable is.VariableDeclaration i = refl
-only-variable is.Function i = absurd i
-only-variable is.ExpressionStatement i = absurd i
-only-variable is.If i = absurd i
-only-variable is.While i = absurd i
-only-variable is.Return i = absurd i
-only-variable is.Block i = absurd i
-only-variable is.Number i = absurd i
-only-variable is.Variable i = absurd i
-only-variable (is.TwoPart o) i = absurd i
-only-variable is.Assignment i = absurd i
-only-variable is.Call i = absurd i
-only-variable is.BayRead i = absurd i
-only-variable is.BayWrite i = absurd i
-only-variable is.Parameter i = absurd i
-only-variable is.Program i = absurd i
-only-variable is.Unknown i = absurd i
+only-variable other i = absurd i
 
 pub only-parameter : Only Parameter is.Parameter
 only-parameter is.Parameter i = refl
-only-parameter is.VariableDeclaration i = absurd i
-only-parameter is.Function i = absurd i
-only-parameter is.ExpressionStatement i = absurd i
-only-parameter is.If i = absurd i
-only-parameter is.While i = absurd i
-only-parameter is.Return i = absurd i
-only-parameter is.Block i = absurd i
-only-parameter is.Number i = absurd i
-only-parameter is.Variable i = absurd i
-only-parameter (is.TwoPart o) i = absurd i
-only-parameter is.Assignment i = absurd i
-only-parameter is.Call i = absurd i
-only-parameter is.BayRead i = absurd i
-only-parameter is.BayWrite i = absurd i
-only-parameter is.Program i = absurd i
-only-parameter is.Unknown i = absurd i
+only-parameter other i = absurd i
 
 pub only-program : Only Program is.Program
 only-program is.Program i = refl
-only-program is.Parameter i = absurd i
-only-program is.VariableDeclaration i = absurd i
-only-program is.Function i = absurd i
-only-program is.ExpressionStatement i = absurd i
-only-program is.If i = absurd i
-only-program is.While i = absurd i
-only-program is.Return i = absurd i
-only-program is.Block i = absurd i
-only-program is.Number i = absurd i
-only-program is.Variable i = absurd i
-only-program (is.TwoPart o) i = absurd i
-only-program is.Assignment i = absurd i
-only-program is.Call i = absurd i
-only-program is.BayRead i = absurd i
-only-program is.BayWrite i = absurd i
-only-program is.Unknown i = absurd i
+only-program other i = absurd i

@@ -46,6 +46,7 @@ pub data Declaration : Type 0 where
   of_a_variable : VariableDeclaration → Declaration
   of_a_function : Function → Declaration
 
+-- A program: its global declarations in order, and its main statement.
 pub record Program : Type 0 where
   pub declarations : List Declaration
   pub main : Statement
@@ -59,17 +60,19 @@ abbrev pub bind_names : List VariableDeclaration → List ℕ → List ℕ
 bind_names [] names = names
 bind_names (declare a x v ∷ ds) names = bind_names ds (x ∷ names)
 
--- The global variables, and the functions, each in the order of their declaration.
+-- The global variables, in the order of their declaration.
 abbrev pub variables_of : List Declaration → List VariableDeclaration
 variables_of [] = []
 variables_of (of_a_variable d ∷ ds) = d ∷ variables_of ds
 variables_of (of_a_function f ∷ ds) = variables_of ds
 
+-- The functions, in the order of their declaration.
 abbrev pub functions_of : List Declaration → List Function
 functions_of [] = []
 functions_of (of_a_variable d ∷ ds) = functions_of ds
 functions_of (of_a_function f ∷ ds) = f ∷ functions_of ds
 
+-- The global variables of a program.
 abbrev pub globals_of : Program → List VariableDeclaration
 globals_of p = variables_of p.declarations
 

@@ -9,27 +9,30 @@ use Rattle.syntax.specs.Syntax.{VariableDeclaration, declare, Expression, consta
 use Rattle.syntax.specs.Syntax.{Arguments, no_argument, argument, Statement, evaluate, if_else, while, give_back, block}
 use Rattle.syntax.specs.Syntax.{Statements, no_statement, then, Function, Declaration, of_a_variable, of_a_function, Program, name_of}
 
--- What stands for a part that is not there; in a table of accepted shape every part is.
+-- What stands for an expression that is not there; in a table of accepted shape every part is.
 abbrev pub no_expression : Expression
 no_expression = constant 0 (pos 0)
 
+-- What stands for a statement that is not there.
 abbrev pub empty_statement : Statement
 empty_statement = evaluate 0 no_expression
 
--- The first of some arguments, and the others.
+-- The first of some arguments.
 abbrev pub first : Arguments → Expression
 first no_argument = no_expression
 first (argument e es) = e
 
+-- The other arguments.
 abbrev pub rest : Arguments → Arguments
 rest no_argument = no_argument
 rest (argument e es) = es
 
--- The first of some statements, and those after n of them.
+-- The first of some statements.
 abbrev pub first_statement : Statements → Statement
 first_statement no_statement = empty_statement
 first_statement (then s ss) = s
 
+-- The statements after the first n.
 abbrev pub drop_statements : ℕ → Statements → Statements
 drop_statements zero ss = ss
 drop_statements (suc n) no_statement = no_statement
@@ -44,29 +47,23 @@ make_expression is.Assignment p r es = assign p r.a (first es)
 make_expression is.Call p r es = call p r.a es
 make_expression is.BayRead p r es = bay_read p (first es)
 make_expression is.BayWrite p r es = bay_write p (first es) (first (rest es))
-make_expression is.ExpressionStatement p r es = no_expression
-make_expression is.If p r es = no_expression
-make_expression is.While p r es = no_expression
-make_expression is.Return p r es = no_expression
-make_expression is.Block p r es = no_expression
-make_expression is.VariableDeclaration p r es = no_expression
-make_expression is.Function p r es = no_expression
-make_expression is.Parameter p r es = no_expression
-make_expression is.Program p r es = no_expression
-make_expression is.Unknown p r es = no_expression
+make_expression other p r es = no_expression
 
 abbrev mutual
+  -- A tree read as an expression.
   pub expression_of : Tree → Expression
   expression_of (node p r ts) = make_expression (node_of r.kind) p r (arguments_of ts)
 
+  -- Trees read as arguments.
   pub arguments_of : Forest → Arguments
   arguments_of none = no_argument
   arguments_of (more t ts) = argument (expression_of t) (arguments_of ts)
 
--- The declarations of variables; a parameter reads as one with its record's number.
+-- A tree read as the declaration of a variable; a parameter reads as one with its record's number.
 abbrev pub variable_of : Tree → VariableDeclaration
 variable_of (node p r ts) = declare p r.a r.v
 
+-- Trees read as declarations of variables.
 abbrev pub variables_in : Forest → List VariableDeclaration
 variables_in none = []
 variables_in (more t ts) = variable_of t ∷ variables_in ts
@@ -80,24 +77,15 @@ make_statement is.If p r es ds ss =
 make_statement is.While p r es ds ss = while p (first es) (first_statement (drop_statements 1 ss))
 make_statement is.Return p r es ds ss = give_back p (first es)
 make_statement is.Block p r es ds ss = block p (take r.a ds) (drop_statements r.a ss)
-make_statement is.Number p r es ds ss = empty_statement
-make_statement is.Variable p r es ds ss = empty_statement
-make_statement (is.TwoPart o) p r es ds ss = empty_statement
-make_statement is.Assignment p r es ds ss = empty_statement
-make_statement is.Call p r es ds ss = empty_statement
-make_statement is.BayRead p r es ds ss = empty_statement
-make_statement is.BayWrite p r es ds ss = empty_statement
-make_statement is.VariableDeclaration p r es ds ss = empty_statement
-make_statement is.Function p r es ds ss = empty_statement
-make_statement is.Parameter p r es ds ss = empty_statement
-make_statement is.Program p r es ds ss = empty_statement
-make_statement is.Unknown p r es ds ss = empty_statement
+make_statement other p r es ds ss = empty_statement
 
 abbrev mutual
+  -- A tree read as a statement.
   pub statement_of : Tree → Statement
   statement_of (node p r ts) =
       make_statement (node_of r.kind) p r (arguments_of ts) (variables_in ts) (statements_of ts)
 
+  -- Trees read as statements.
   pub statements_of : Forest → Statements
   statements_of none = no_statement
   statements_of (more t ts) = then (statement_of t) (statements_of ts)
@@ -114,26 +102,13 @@ function_of (node p r ts) = record {
 -- A global declaration: a function where the record is one, else a variable.
 abbrev pub make_declaration : NodeKind → Tree → Declaration
 make_declaration is.Function t = of_a_function (function_of t)
-make_declaration is.VariableDeclaration t = of_a_variable (variable_of t)
-make_declaration is.Number t = of_a_variable (variable_of t)
-make_declaration is.Variable t = of_a_variable (variable_of t)
-make_declaration (is.TwoPart o) t = of_a_variable (variable_of t)
-make_declaration is.Assignment t = of_a_variable (variable_of t)
-make_declaration is.Call t = of_a_variable (variable_of t)
-make_declaration is.BayRead t = of_a_variable (variable_of t)
-make_declaration is.BayWrite t = of_a_variable (variable_of t)
-make_declaration is.ExpressionStatement t = of_a_variable (variable_of t)
-make_declaration is.If t = of_a_variable (variable_of t)
-make_declaration is.While t = of_a_variable (variable_of t)
-make_declaration is.Return t = of_a_variable (variable_of t)
-make_declaration is.Block t = of_a_variable (variable_of t)
-make_declaration is.Parameter t = of_a_variable (variable_of t)
-make_declaration is.Program t = of_a_variable (variable_of t)
-make_declaration is.Unknown t = of_a_variable (variable_of t)
+make_declaration other t = of_a_variable (variable_of t)
 
+-- Which node the record of a tree is.
 abbrev pub node_kind : Tree → NodeKind
 node_kind (node p r ts) = node_of r.kind
 
+-- Trees read as global declarations.
 abbrev pub declarations_of : Forest → List Declaration
 declarations_of none = []
 declarations_of (more t ts) = make_declaration (node_kind t) t ∷ declarations_of ts
@@ -145,22 +120,27 @@ program_in (node p r ts) = record {
   main = first_statement (drop_statements r.a (statements_of ts));
 }
 
--- What stands at an index of a table, and the n parts from there on.
+-- The expression at an index of a table.
 abbrev pub expression_at : List Record → ℕ → Expression
 expression_at table at = expression_of (tree_at table at)
 
+-- The n arguments from an index of a table on.
 abbrev pub arguments_at : List Record → ℕ → ℕ → Arguments
 arguments_at table at n = arguments_of (pieces table at n)
 
+-- The statement at an index of a table.
 abbrev pub statement_at : List Record → ℕ → Statement
 statement_at table at = statement_of (tree_at table at)
 
+-- The n statements from an index of a table on.
 abbrev pub statements_at : List Record → ℕ → ℕ → Statements
 statements_at table at n = statements_of (pieces table at n)
 
+-- The n declarations of variables, or parameters, from an index of a table on.
 abbrev pub variables_at : List Record → ℕ → ℕ → List VariableDeclaration
 variables_at table at n = variables_in (pieces table at n)
 
+-- The n global declarations from an index of a table on.
 abbrev pub declarations_at : List Record → ℕ → ℕ → List Declaration
 declarations_at table at n = declarations_of (pieces table at n)
 
@@ -168,10 +148,11 @@ declarations_at table at n = declarations_of (pieces table at n)
 abbrev pub program_of : List Record → Program
 program_of table = program_in (tree_at table 0)
 
--- How many parts a record has of its row's first sort, and of its second.
+-- How many parts a record has of its row's first sort.
 abbrev pub first_parts : Record → ℕ
 first_parts r = amount (row_of r.kind).first.count r
 
+-- How many parts a record has of its row's second sort.
 abbrev pub second_parts : Record → ℕ
 second_parts r = amount (row_of r.kind).second.count r
 

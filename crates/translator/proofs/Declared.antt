@@ -1,37 +1,17 @@
 -- Loops over declarations: what is put down so far, and what the declarations that are left give, are all.
 use Rattle.std.proofs.Common.{◌≡◌, ℕ, ◌+◌, ◌-◌, ◌<◌, List, ◌∷◌, ◌++◌, length, get_or, take, drop, sym, refl, ap, ◌∙◌, append_assoc, arith}
-use Rattle.std.proofs.lemmas.List.{get_or-take, get_or-drop, length-take}
 use Rattle.script.specs.declared.record.Record.{Record}
 use Rattle.script.specs.declared.rows.Sort.TheVariants.{Declaration as DeclarationSort}
 use Rattle.script.specs.declared.rows.NodeKind.TheVariants as is
 use Rattle.syntax.specs.Syntax.{declare, of_a_variable, of_a_function, Function}
-use Rattle.syntax.specs.Trees.{tree_at, pieces, size, sizes, Leaves, no_record}
+use Rattle.syntax.specs.Trees.{tree_at, pieces, size, sizes, Leaves, no_record, Parts}
 use Rattle.syntax.specs.Typed.{variables_at, declarations_at, function_of, node_at, first_parts}
 use Rattle.syntax.proofs.Expressions.{firsts}
-use Rattle.syntax.proofs.Statements.{declared-first}
 use Rattle.syntax.proofs.Declarations.{functional, first_function, first-variable}
-use Rattle.syntax.specs.Trees.{Parts}
 
 -- One more piece is put down.
 pub moved : {A : Type 0} (x y p u v all : List A) → u ≡ p ++ v → x ++ u ≡ all → y ≡ x ++ p → y ++ v ≡ all
 moved x y p u v all e f g = rw g (append_assoc x p v ∙ rw (← e) f)
-
--- After k of n declarations of a record each, the next is the k-th record from the first on.
-pub record NextLocal (table : List Record) (at n k : ℕ) (r : Record) : Type 0 where
-  pub below : k < n
-  pub others : Leaves (n - (k + 1)) (pieces table (at + (k + 1)) (n - (k + 1)))
-  pub is : variables_at table (at + k) (n - k) ≡ declare (at + k) r.a r.v ∷ variables_at table (at + (k + 1)) (n - (k + 1))
-
-pub next-local : (table : List Record) (at n k : ℕ) → k < length (take (at + n - at) (drop at table)) →
-    Leaves (n - k) (pieces table (at + k) (n - k)) → NextLocal table at n k (get_or (take (at + n - at) (drop at table)) k no_record)
-next-local table at n k h s =
-    let w : k < n = omega (arith, length-take (at + n - at) (drop at table)) in
-    let p = declared-first table (at + k) (n - k) no_record (omega arith) s in
-    let m : at + k + 1 ≡ at + (k + 1) = omega arith in
-    let j : n - k - 1 ≡ n - (k + 1) = omega arith in
-    let r : get_or (take (at + n - at) (drop at table)) k no_record ≡ get_or table (at + k) no_record =
-    get_or-take (at + n - at) (drop at table) k no_record (omega arith) ∙ get_or-drop at table k no_record in
-    rw r record { below = w; others = rw (← m, ← j) p.others; is = rw (← m, ← j) p.is }
 
 -- After k of n global declarations: the next is a function, and the others begin at e.
 pub record NextFunction (table : List Record) (at n k e : ℕ) : Type 0 where

@@ -4,11 +4,10 @@ use Rattle.stack.specs.Store.{contents}
 use Rattle.script.specs.declared.record.Record.{Record}
 use Rattle.syntax.specs.Typed.{statements_at}
 use Rattle.names.specs.declared.context.Context.{Context}
-use Rattle.code.specs.declared.instruction.Operation.{Operation}
 use Rattle.code.specs.Scheme.{block_code}
 use Rattle.translator.specs.declared.emitter.Emitter.{Emitter}
-use Rattle.translator.specs.Emitting.{SameLoans, Keeps, operation_here, expression_here}
-use Rattle.translator.specs.Emitting.{statement_from, statement_here, statements_here}
+use Rattle.translator.specs.Emitting.{SameLoans, Keeps, operation_here, expression_here, statement_from, statement_here}
+use Rattle.translator.specs.Emitting.{statements_here}
 
 -- Steps one after another.
 pub same_loans : {a b c : Emitter} → SameLoans a b → SameLoans b c → SameLoans a c
@@ -21,18 +20,18 @@ same_loans k l = record {
 }
 
 pub kept : {a b c : Emitter} → Keeps a b → Keeps b c → Keeps a c
-kept k l = record { loans = same_loans k.loans l.loans; names = l.names ∙ k.names; height = l.height ∙ k.height }
+kept k l = record { loans = same_loans k.loans l.loans; leave = l.leave ∙ k.leave; names = l.names ∙ k.names; height = l.height ∙ k.height }
 
 module _ (a e : Emitter) where
-  pub same_table : SameLoans a e → e.context.table.now ≡ a.context.table.now
-  same_table l = ap (λ (x : Context). x.table.now) l.context
+  pub same_table : SameLoans a e → e.context.table.records.now ≡ a.context.table.records.now
+  same_table l = ap (λ (x : Context). x.table.records.now) l.context
 
   -- Statements of a block, under more names.
-  pub statements-under : SameLoans a e → (leave : Operation) (at count place : ℕ) (own : List ℕ) → reverse (contents e.scope.now) ≡ own →
-      statements_here e leave at count place
-      ≡ block_code (reverse a.context.globals.now) a.context.functions.now leave (statements_at a.context.table.now at count) own
+  pub statements-under : SameLoans a e → e.leave ≡ a.leave → (at count place : ℕ) (own : List ℕ) → reverse (contents e.scope.now) ≡ own →
+      statements_here e at count place
+      ≡ block_code (reverse a.context.globals.now) a.context.functions.now a.leave (statements_at a.context.table.records.now at count) own
       place (vec_len e.code.now)
-  statements-under l leave at count place own q = rw (l.context, q) refl
+  statements-under l leave at count place own q = rw (l.context, leave, q) refl
 
   module _ (k : Keeps a e) where
     pub operation-kept : (r : Record) → operation_here e r ≡ operation_here a r
@@ -41,5 +40,5 @@ module _ (a e : Emitter) where
     pub expression-kept : (at : ℕ) → expression_here e at ≡ expression_here a at
     expression-kept at = rw (k.loans.context, k.names) refl
 
-    pub statement-kept : (leave : Operation) (at : ℕ) → statement_here e leave at ≡ statement_from a leave at (vec_len e.code.now)
-    statement-kept leave at = rw (k.loans.context, k.names) refl
+    pub statement-kept : (at : ℕ) → statement_here e at ≡ statement_from a at (vec_len e.code.now)
+    statement-kept at = rw (k.loans.context, k.names, k.leave) refl

@@ -1,10 +1,10 @@
 -- An expression has one instruction a record; a statement has at most four a record, less one.
 use Rattle.std.proofs.Common.{◌≡◌, ℕ, suc, ◌+◌, ◌*◌, ◌≤◌, List, [], ◌∷◌, reverse, length, refl, ap, arith, length-append}
 use Rattle.script.specs.declared.record.Record.{Record}
-use Rattle.syntax.specs.Syntax.{VariableDeclaration, declare, Expression, constant, variable, binary, assign, call, bay_read}
-use Rattle.syntax.specs.Syntax.{bay_write, Arguments, no_argument, argument, Statement, evaluate, if_else, while, give_back}
-use Rattle.syntax.specs.Syntax.{block, Statements, no_statement, then, Declaration, of_a_variable, of_a_function}
-use Rattle.syntax.specs.Syntax.{bind_names, functions_of, global_names}
+use Rattle.syntax.specs.Syntax.{VariableDeclaration, declare, Expression, constant, variable, binary, assign, call}
+use Rattle.syntax.specs.Syntax.{bay_read, bay_write, Arguments, no_argument, argument, Statement, evaluate, if_else}
+use Rattle.syntax.specs.Syntax.{while, give_back, block, Statements, no_statement, then, Declaration, of_a_variable}
+use Rattle.syntax.specs.Syntax.{of_a_function, bind_names, functions_of, global_names}
 use Rattle.syntax.specs.Listing.{list_expression, list_arguments, list_variables, list_statement, list_statements}
 use Rattle.syntax.specs.Listing.{list_declaration, list_declarations}
 use Rattle.names.specs.declared.signature.Signature.{Signature}

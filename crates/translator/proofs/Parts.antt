@@ -4,7 +4,8 @@ use Rattle.script.specs.declared.record.Record.{Record}
 use Rattle.script.specs.declared.rows.Sort.TheVariants.{Expression as ExpressionSort}
 use Rattle.script.specs.declared.rows.NodeKind.{NodeKind}
 use Rattle.script.specs.Rows.{node_of, suits}
-use Rattle.syntax.specs.Syntax.{Expression, constant, variable, binary, assign, call, bay_read, bay_write, Arguments, locate}
+use Rattle.syntax.specs.Syntax.{Expression, constant, variable, binary, assign, call, bay_read, bay_write, Arguments}
+use Rattle.syntax.specs.Syntax.{locate}
 use Rattle.syntax.specs.Typed.{make_expression, expression_at, arguments_at}
 use Rattle.syntax.proofs.NodeKinds.{row_for, by-expression}
 use Rattle.syntax.proofs.Expressions.{parts_of, Expressed}

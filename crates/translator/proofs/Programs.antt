@@ -8,8 +8,8 @@ use Rattle.names.specs.Names.{signature}
 use Rattle.code.specs.declared.instruction.Operation.TheVariants.{Lit, Pop, Ret, Halt}
 use Rattle.code.specs.declared.instruction.Instruction.{Instruction}
 use Rattle.code.specs.declared.instruction.FunctionEntry.{FunctionEntry}
-use Rattle.code.specs.Scheme.{op, statement_code, function_code, functions_code, entries_from, number_of}
-use Rattle.code.specs.Scheme.{program_code, function_entries, global_numbers}
+use Rattle.code.specs.Scheme.{op, statement_code, function_code, functions_code, entries_from, number_of, program_code}
+use Rattle.code.specs.Scheme.{function_entries, global_numbers}
 use Rattle.translator.specs.Records.{entry_of}
 use Rattle.translator.specs.Translations.{Held, translation_of}
 

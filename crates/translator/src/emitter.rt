@@ -1,8 +1,8 @@
 // What emits the code of bodies: instructions at the end of the code so far, and names on top of those in scope.
-ghost use Rattle.std.specs.Prelude.{◌≡◌, ◌+◌, ◌<◌, ◌≤◌, [], ◌∷◌, ◌++◌, map, length, replicate, vec_len, vec_capacity, slice_set};
+ghost use Rattle.std.specs.Prelude.{◌≡◌, ◌+◌, ◌<◌, ◌≤◌, [], ◌∷◌, ◌++◌, map, replicate, vec_len, vec_capacity, slice_set};
 ghost use Rattle.stack.specs.Store.{contents, capacity};
 ghost use Rattle.syntax.specs.Syntax.{name_of};
-ghost use Rattle.syntax.specs.Trees.{pieces, Leaves};
+ghost use Rattle.syntax.specs.Trees.{LeafParts};
 ghost use Rattle.syntax.specs.Typed.{variables_at};
 ghost use Rattle.code.specs.declared.instruction.Operation.TheVariants.{Pop};
 ghost use Rattle.code.specs.Scheme.{op};
@@ -17,6 +17,8 @@ pub struct Emitter<'a, 'b> {
     pub context: Context<'a>,
     pub scope: &'a mut Stack<'b, u16>,
     pub code: &'a mut Vec<Instruction>,
+    // what a return ends with
+    pub leave: Operation,
 }
 
 impl Emitter<'_, '_> {
@@ -57,17 +59,17 @@ impl Emitter<'_, '_> {
 
     // Binds the names of `count` declarations, a record each from `at` on.
     pub fn bind(&mut self, count: usize, at: usize)
-        requires within { at + count ≤ length self.old.context.table.now }
-        requires sound { Leaves count (pieces self.old.context.table.now at count) }
+        requires parts { LeafParts self.old.context.table.records.now at count }
         requires names { self.old.scope.now.height + count ≤ capacity self.old.scope.now }
         ensures bound { contents self.new.scope.now
             ≡ contents self.old.scope.now
-            ++ map name_of (variables_at self.old.context.table.now at count) }
+            ++ map name_of (variables_at self.old.context.table.records.now at count) }
         ensures height { self.new.scope.now.height ≡ self.old.scope.now.height + count }
         ensures code { self.new.code.now ≡ self.old.code.now }
+        ensures leave { self.new.leave ≡ self.old.leave }
         ensures loans { SameLoans self.old self.new }
     {
-        for node in &self.context.table[at..at + count] {
+        for node in &self.context.table.records[at..at + count] {
             self.scope.push(node.a);
         }
     }

@@ -1,14 +1,17 @@
 -- The declarations of a table, one after another, and the search for a function among them.
-use Rattle.std.proofs.Common.{◌≡◌, ℕ, ◌+◌, ◌-◌, ◌<◌, List, length, get_or, replicate, refl, ap, ◌∙◌, arith}
+use Rattle.std.proofs.Common.{◌≡◌, ℕ, ◌+◌, ◌-◌, ◌<◌, List, [], length, get_or, replicate, refl, ap, ◌∙◌, arith}
 use Rattle.script.specs.declared.record.Record.{Record}
 use Rattle.script.specs.declared.rows.Sort.TheVariants.{Declaration as DeclarationSort}
 use Rattle.script.specs.declared.rows.NodeKind.TheVariants as is
-use Rattle.script.specs.Rows.{node_of}
+use Rattle.script.specs.declared.rows.NodeKind.{NodeKind}
+use Rattle.script.specs.Rows.{node_of, wants}
 use Rattle.syntax.specs.Syntax.{Declaration, Program, function_named, functions_of}
 use Rattle.syntax.specs.Trees.{no_record, tree_at, pieces, size, Sounds}
 use Rattle.syntax.specs.Typed.{first_parts, declarations_at}
 use Rattle.syntax.proofs.Expressions.{firsts}
-use Rattle.syntax.proofs.Declarations.{FirstFunction, first_function, first-variable, programmed}
+use Rattle.syntax.proofs.NodeKinds.{row_for}
+use Rattle.syntax.proofs.Statements.{opened}
+use Rattle.syntax.proofs.Declarations.{FirstFunction, first_function, FirstVariable, first-variable, programmed}
 use Rattle.walk.specs.Ready.{Accepted, Located, functions_in}
 use Rattle.walk.proofs.Bindings.{eqb-true, eqb-ne}
 
@@ -24,6 +27,18 @@ function-passed table at many next h s b e =
     let w = p.function.whole in
     let z : next ≡ at + 1 + n + size (tree_at table (at + 1 + n)) = omega arith in
     first_function table at many n _ next no_record h s b refl refl z
+
+-- A variable is one record.
+pub variable-passed : (table : List Record) (at many next : ℕ) → 0 < many →
+    Sounds (pieces table at many) (replicate many DeclarationSort) →
+    (node_of (get_or table at no_record).kind ≡ is.Function → ⊥) → next ≡ at + size (tree_at table at) →
+    (next ≡ at + 1) × FirstVariable table at many (get_or table at no_record)
+variable-passed table at many next h s n e =
+    let r : Record = get_or table at no_record in
+    let g = firsts table at many _ DeclarationSort h s refl in
+    let p = first-variable table at many no_record h s n in
+    let o = opened table at no_record DeclarationSort g.within g.first [] (λ i. ap (λ (z : NodeKind). wants (row_for z) r) p.kind) in
+    (omega (arith, ap size o.tree), p)
 
 -- The function of a name is looked for among the declarations of a table: `left` of them are left, from an index on.
 pub record Sought (table : List Record) (name at left : ℕ) : Type 0 where
@@ -44,12 +59,12 @@ module _ {table : List Record} {name at left : ℕ} (s : Sought table name at le
   next-within = (firsts table at left _ DeclarationSort h s.sound refl).within
 
   pub past-variable : (node_of (get_or table at no_record).kind ≡ is.Function → ⊥) →
-      Sought table name (at + 1) (left - 1)
-  past-variable n =
-      let p = first-variable table at left no_record h s.sound n in
-      record {
-        sound = p.others;
-        is = s.is ∙ ap (λ (ds : List Declaration). function_named name (functions_of ds)) p.is;
+      (next : ℕ) → next ≡ at + size (tree_at table at) → Sought table name next (left - 1)
+  past-variable n next e =
+      let p = variable-passed table at left next h s.sound n e in
+      rw p.0 record {
+        sound = p.1.others;
+        is = s.is ∙ ap (λ (ds : List Declaration). function_named name (functions_of ds)) p.1.is;
       }
 
   module _ (b : node_of (get_or table at no_record).kind ≡ is.Function) where

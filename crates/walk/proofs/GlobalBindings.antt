@@ -15,7 +15,7 @@ use Rattle.walk.specs.declared.walker.Walker.{Walker}
 use Rattle.walk.specs.Lent.{lent_in, state, pushed, Same, Bound}
 use Rattle.walk.specs.Ready.{Accepted, main_index}
 use Rattle.walk.proofs.Binds.{Binds, none-bound, one-bound}
-use Rattle.walk.proofs.Declared.{function-passed}
+use Rattle.walk.proofs.Declared.{function-passed, variable-passed}
 use Rattle.walk.proofs.States.{variable-pushed}
 
 -- From w on, w' has come to the declaration at an index, and `left` of them are left.
@@ -66,13 +66,15 @@ module _ {w w' : Walker} {at left : ℕ} (s : Binding w w' at left) (h : 0 < lef
     pub variable-binds : (w'' : Walker) →
         state (lent_in w'')
         ≡ pushed (get_or w.table.now at no_record).a (get_or w.table.now at no_record).v (state (lent_in w')) →
-        Bound w' w'' 1 → Same w' w'' → Binding w w'' (at + 1) (left - 1)
-    variable-binds w'' e b u =
-        let p = first-variable w.table.now at left no_record h s.sound n in
+        Bound w' w'' 1 → Same w' w'' → (next : ℕ) → next ≡ at + size (tree_at w.table.now at) →
+        Binding w w'' next (left - 1)
+    variable-binds w'' e b u next k =
+        let q = variable-passed w.table.now at left next h s.sound n k in
+        let p = q.1 in
         let r : Record = get_or w.table.now at no_record in
         let l : length (variables_of (declarations_at w.table.now at left)) - 1 ≡ length others =
         omega (arith, one-less) in
-        record {
+        rw q.0 record {
           sound = p.others;
           ends = sym p.whole ∙ s.ends;
           binds = rw l at (one-bound s.binds w'' r.a r.v e b u (omega (arith, one-less)) (bind_variables counter others)

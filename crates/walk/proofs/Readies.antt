@@ -3,6 +3,7 @@ use Rattle.std.proofs.Common.{◌≡◌, ℕ, suc, ◌+◌, ◌-◌, ◌*◌, �
 use native.Mathlib.Decide.{ℕ_discrete}
 use Rattle.script.specs.declared.record.Record.{Record}
 use Rattle.script.specs.declared.rows.Operator.{Operator}
+use Rattle.script.specs.declared.rows.NodeKind.{NodeKind}
 use Rattle.script.specs.declared.rows.Sort.TheVariants.{Expression as ExpressionSort, Statement as StatementSort}
 use Rattle.script.specs.declared.rows.NodeKind.TheVariants as is
 use Rattle.syntax.specs.Syntax.{Expression, binary, assign, call, bay_read, bay_write, Arguments, no_argument, argument}
@@ -13,14 +14,14 @@ use Rattle.syntax.specs.Typed.{arguments_of, statements_of, expression_at, argum
 use Rattle.syntax.specs.Typed.{function_of, first_parts, second_parts}
 use Rattle.syntax.proofs.Expressions.{firsts}
 use Rattle.syntax.proofs.Statements.{blocked}
-use Rattle.syntax.proofs.Shapes.{simple-at, return-at, chosen, looped}
+use Rattle.syntax.proofs.Shapes.{Tested, simple-at, return-at, chosen, looped}
 use Rattle.syntax.proofs.Declarations.{functional}
 use Rattle.names.specs.Need.{need_expression, need_arguments, need_statement, need_statements, need_function, need_functions}
 use Rattle.names.specs.Scoped.{Takes, ScopedExpression, ScopedArguments, ScopedStatement, ScopedStatements, ScopedFunctions}
 use Rattle.walk.specs.declared.walker.Walker.{Walker}
 use Rattle.walk.specs.Lent.{Lent, lent_in, Same}
 use Rattle.walk.specs.Ready.{functions_in, globals_in, need_in, Room, ReadyExpression, ReadyArguments, ReadyStatement, ReadyStatements, Located}
-use Rattle.walk.proofs.Views.{one-part, two-parts, called}
+use Rattle.walk.proofs.Views.{OnePart, one-part, TwoParts, two-parts, called}
 
 -- As many bindings stand, in slices as long.
 pub record SameRoom (l l' : Lent) : Type 0 where
@@ -55,35 +56,26 @@ module _ {table : List Record} {depth opened at : ℕ} {l : Lent} where
       pub is : expression_at table at ≡ made (expression_at table (at + 1))
       pub ends : at + 1 + size (tree_at table (at + 1)) ≡ at + size (tree_at table at)
 
+    one-ready : {made : Expression → Expression} (q : NodeKind) → OnePart table at r.part q →
+        expression_at table at ≡ made (expression_at table (at + 1)) →
+        Scoped table r.own (expression_at table (at + 1)) →
+        need_expression (expression_at table (at + 1)) ≤ need_expression (expression_at table at) → OneReady made
+    one-ready q v e s h = record {
+      part = record { part = v.part; own = r.own; scoped = s; room = less-room r.room h (same l) };
+      is = e;
+      ends = v.ends;
+    }
+
     pub assign-ready : node_at table at ≡ is.Assignment → OneReady (assign at (get_or table at no_record).a)
     assign-ready b =
         let v = one-part table at r.part is.Assignment b refl in
         let s = subst (Scoped table r.own) v.is r.scoped in
-        record {
-          part = record {
-            part = v.part;
-            own = r.own;
-            scoped = s.1;
-            room =
-                less-room r.room (omega (arith, ap need_expression v.is)) (same l);
-          };
-          is = v.is;
-          ends = v.ends;
-        }
+        one-ready is.Assignment v v.is s.1 (omega (arith, ap need_expression v.is))
 
     pub bay-read-ready : node_at table at ≡ is.BayRead → OneReady (bay_read at)
     bay-read-ready b =
         let v = one-part table at r.part is.BayRead b refl in
-        record {
-          part = record {
-            part = v.part;
-            own = r.own;
-            scoped = subst (Scoped table r.own) v.is r.scoped;
-            room = less-room r.room (omega (arith, ap need_expression v.is)) (same l);
-          };
-          is = v.is;
-          ends = v.ends;
-        }
+        one-ready is.BayRead v v.is (subst (Scoped table r.own) v.is r.scoped) (omega (arith, ap need_expression v.is))
 
     -- An expression of two parts, the second at m.
     pub record TwoReady (m : ℕ) (made : Expression → Expression → Expression) : Type 0 where
@@ -93,53 +85,32 @@ module _ {table : List Record} {depth opened at : ℕ} {l : Lent} where
       pub ends : m + size (tree_at table m) ≡ at + size (tree_at table at)
 
     module _ (m : ℕ) (em : m ≡ at + 1 + size (tree_at table (at + 1))) where
+      two-ready : {made : Expression → Expression → Expression} (q : NodeKind) → TwoParts table at r.part q m →
+          expression_at table at ≡ made (expression_at table (at + 1)) (expression_at table m) →
+          Scoped table r.own (expression_at table (at + 1)) × Scoped table r.own (expression_at table m) →
+          max (need_expression (expression_at table (at + 1))) (1 + need_expression (expression_at table m))
+          ≤ need_expression (expression_at table at) → TwoReady m made
+      two-ready q v e s h = record {
+        first = record { part = v.first; own = r.own; scoped = s.0; room = less-room r.room (omega (arith, h)) (same l) };
+        second = λ l' k. record {
+          part = v.second;
+          own = r.own;
+          scoped = s.1;
+          room = less-room r.room (omega (arith, h)) k;
+        };
+        is = e;
+        ends = v.ends;
+      }
+
       pub two_part_ready : (o : Operator) → node_at table at ≡ is.TwoPart o → TwoReady m (binary at o)
       two_part_ready o b =
           let v = two-parts table at r.part (is.TwoPart o) m b refl em in
-          let s = subst (Scoped table r.own) v.is r.scoped in
-          let n = ap need_expression v.is in
-          record {
-            first = record {
-              part = v.first;
-              own = r.own;
-              scoped = s.0;
-              room =
-                  less-room r.room (omega (arith, n)) (same l);
-            };
-            second = λ l' e. record {
-              part = v.second;
-              own = r.own;
-              scoped = s.1;
-              room =
-                  less-room r.room (omega (arith, n)) e;
-            };
-            is = v.is;
-            ends = v.ends;
-          }
+          two-ready (is.TwoPart o) v v.is (subst (Scoped table r.own) v.is r.scoped) (omega (arith, ap need_expression v.is))
 
       pub bay_write_ready : node_at table at ≡ is.BayWrite → TwoReady m (bay_write at)
       bay_write_ready b =
           let v = two-parts table at r.part is.BayWrite m b refl em in
-          let s = subst (Scoped table r.own) v.is r.scoped in
-          let n = ap need_expression v.is in
-          record {
-            first = record {
-              part = v.first;
-              own = r.own;
-              scoped = s.0;
-              room =
-                  less-room r.room (omega (arith, n)) (same l);
-            };
-            second = λ l' e. record {
-              part = v.second;
-              own = r.own;
-              scoped = s.1;
-              room =
-                  less-room r.room (omega (arith, n)) e;
-            };
-            is = v.is;
-            ends = v.ends;
-          }
+          two-ready is.BayWrite v v.is (subst (Scoped table r.own) v.is r.scoped) (omega (arith, ap need_expression v.is))
 
     -- A call: its n arguments, as many as its function takes.
     pub record CallReady (n : ℕ) : Type 0 where
@@ -177,33 +148,30 @@ module _ {table : List Record} {depth opened at : ℕ} {l : Lent} where
       pub is : statement_at table at ≡ made (expression_at table (at + 1))
       pub ends : at + 1 + size (tree_at table (at + 1)) ≡ at + size (tree_at table at)
 
+    simple-ready : {made : Expression → Statement} →
+        Tested table at × (statement_at table at ≡ made (expression_at table (at + 1))) →
+        Scoped table r.own (expression_at table (at + 1)) →
+        need_expression (expression_at table (at + 1)) ≤ need_statement (statement_at table at) → SimpleReady made
+    simple-ready v s h = record {
+      part = record {
+        part = record { within = v.0.test_within; sound = v.0.test };
+        own = r.own;
+        scoped = s;
+        room = less-room r.room h (same l);
+      };
+      is = v.1;
+      ends = omega (arith, v.0.whole);
+    }
+
     pub evaluate-ready : node_at table at ≡ is.ExpressionStatement → SimpleReady (evaluate at)
     evaluate-ready b =
         let v = simple-at table at r.part.within r.part.sound b in
-        record {
-          part = record {
-            part = record { within = v.0.test_within; sound = v.0.test };
-            own = r.own;
-            scoped = subst InScope v.1 r.scoped;
-            room = less-room r.room (omega (arith, ap need_statement v.1)) (same l);
-          };
-          is = v.1;
-          ends = omega (arith, v.0.whole);
-        }
+        simple-ready v (subst InScope v.1 r.scoped) (omega (arith, ap need_statement v.1))
 
     pub return-ready : node_at table at ≡ is.Return → SimpleReady (give_back at)
     return-ready b =
         let v = return-at table at r.part.within r.part.sound b in
-        record {
-          part = record {
-            part = record { within = v.0.test_within; sound = v.0.test };
-            own = r.own;
-            scoped = subst InScope v.1 r.scoped;
-            room = less-room r.room (omega (arith, ap need_statement v.1)) (same l);
-          };
-          is = v.1;
-          ends = omega (arith, v.0.whole);
-        }
+        simple-ready v (subst InScope v.1 r.scoped) (omega (arith, ap need_statement v.1))
 
     -- A while, its body at m.
     pub record WhileReady (m : ℕ) : Type 0 where

@@ -77,11 +77,10 @@ abbrev pub shown : {A B : Type 0} → (B → A) → Result B Stop → State ℤ 
 shown means (Ok b) σ = value (means b) σ
 shown means (Err s) σ = stopped s σ
 
--- The bindings: as many as before where there is a value; no fewer where there is none, and all within the slices.
+-- The bindings: as many as before where there is a value, and no fewer where there is none.
 abbrev pub Kept : {B : Type 0} → Result B Stop → Lent → Lent → Type 0
 Kept (Ok b) before after = after.bound ≡ before.bound
-Kept (Err s) before after =
-    (before.bound ≤ after.bound) × (after.bound ≤ length after.names) × (after.bound ≤ length after.words)
+Kept (Err s) before after = before.bound ≤ after.bound
 
 -- Where there is a value, the index after the part is told.
 abbrev pub Ends : {B : Type 0} → Result B Stop → (B → ℕ) → ℕ → Type 0

@@ -4,12 +4,13 @@ use Rattle.script.specs.declared.record.Record.{Record}
 use Rattle.script.specs.declared.rows.NodeKind.{NodeKind}
 use Rattle.script.specs.declared.rows.NodeKind.TheVariants.{Function as FunctionKind}
 use Rattle.script.specs.declared.rows.Sort.TheVariants.{Expression as ExpressionSort, Statement as StatementSort, Declaration as DeclarationSort, Program as ProgramSort}
-use Rattle.syntax.specs.Syntax.{Function, functions_of, globals_of, global_names}
+use Rattle.syntax.specs.Syntax.{Function, functions_of, global_names}
 use Rattle.syntax.specs.Trees.{no_record, tree_at, pieces, sizes, Sound, Sounds, Part}
 use Rattle.syntax.specs.Typed.{program_of, expression_at, arguments_at, statement_at, statements_at, function_of, node_at}
 use Rattle.names.specs.Need.{need_expression, need_arguments, need_statement, need_statements, largest_need}
 use Rattle.names.specs.Scoped.{ScopedExpression, ScopedArguments, ScopedStatement, ScopedStatements, WellNamed}
 use Rattle.walk.specs.Lent.{Lent}
+use Rattle.walk.specs.Walked.{room_for}
 
 -- A table that was accepted: one sound program, with its names in order.
 pub record Accepted (table : List Record) : Type 0 where
@@ -85,5 +86,5 @@ Finds table found (Some at) = Located table found at
 -- What a walk that is not refused may rely on: an accepted table, and slices long enough for it.
 pub record Fit (table : List Record) (names words depth : ℕ) : Type 0 where
   pub accepted : Accepted table
-  pub names_fit : length (globals_of (program_of table)) + (depth + 1) * need_in table ≤ names
-  pub words_fit : length (globals_of (program_of table)) + (depth + 1) * need_in table ≤ words
+  pub names_fit : room_for (program_of table) depth ≤ names
+  pub words_fit : room_for (program_of table) depth ≤ words

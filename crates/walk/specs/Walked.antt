@@ -1,5 +1,5 @@
 -- What a walk answers, and what names, words and bays then hold.
-use Rattle.std.specs.Prelude.{ℕ, ◌+◌, ◌-◌, ◌*◌, ◌&&◌, List, length, ℤ, Some, None, Ok, Err, Result, nat_le}
+use Rattle.std.specs.Prelude.{ℕ, ◌-◌, ◌&&◌, List, length, ℤ, Some, None, Ok, Err, Result, nat_le}
 use mathlib.Core.List.{reverse_aux}
 use Rattle.kinds.specs.Counter.{counter}
 use Rattle.script.specs.declared.record.Record.{Record}
@@ -8,10 +8,12 @@ use Rattle.script.specs.declared.refusal.Refusal.TheVariants.{FuelOrDepth, TooFe
 use Rattle.script.specs.declared.ending.Ending.TheVariants.{Done}
 use Rattle.script.specs.declared.ending.RunEnd.{RunEnd}
 use Rattle.script.specs.Sequence.{and_then}
+use Rattle.script.specs.Limits.{within_limits, words_wanted}
+use Rattle.script.specs.Refusals.{unless}
 use Rattle.syntax.specs.Syntax.{Program, globals_of}
 use Rattle.syntax.specs.Typed.{program_of}
 use Rattle.names.specs.Need.{largest_need}
-use Rattle.names.specs.Names.{Answer, ◌⨟◌, unless}
+use Rattle.names.specs.Names.{Answer, ◌⨟◌}
 use Rattle.names.specs.Tables.{table_rules}
 use Rattle.treerun.specs.TreeRun.{Outcome, value, returned, ended, run_program, unbound}
 use Rattle.treerun.specs.Laws.{state_left}
@@ -23,13 +25,13 @@ use Rattle.walk.specs.Lent.{every}
 
 -- How many elements each slice must have: the globals, and a largest frame for each call open at once and for main.
 abbrev pub room_for : Program → ℕ → ℕ
-room_for p depth = length (globals_of p) + (depth + 1) * largest_need p
+room_for p depth = words_wanted (length (globals_of p)) (largest_need p) depth
 
 -- Why a walk is refused, in this order: the table's shape and names, fuel and depth, and slices that are too short.
 abbrev pub walk_rules : List Record → ℕ → ℕ → ℕ → ℕ → Answer
 walk_rules table names words fuel depth =
     and_then (table_rules table) (λ s.
-    unless (nat_le fuel 1000000 && nat_le depth 63) FuelOrDepth
+    unless (within_limits (record { fuel = fuel; depth = depth })) FuelOrDepth
     ⨟ unless (nat_le (room_for (program_of table) depth) names && nat_le (room_for (program_of table) depth) words)
     (TooFewWords (room_for (program_of table) depth)))
 

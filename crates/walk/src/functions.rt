@@ -16,13 +16,8 @@ pub fn function(table: &[Record], name: u16) -> Option<usize>
     for _ in 0..table[0].a {
         let node = table[at];
         match node_kind(node) {
-            NodeKind::Function => {
-                if name == node.a {
-                    return Some(at);
-                }
-                at = skip(table, at);
-            }
-            _ => at += 1,
+            NodeKind::Function if name == node.a => return Some(at),
+            _ => at = skip(table, at),
         }
     }
     None

@@ -33,12 +33,10 @@ impl<'a> Walker<'a> {
         for _ in 0..table[0].a {
             let node = table[at];
             match node_kind(node) {
-                NodeKind::Function => at = skip(table, at),
-                _ => {
-                    self.declare_one(node);
-                    at += 1;
-                }
+                NodeKind::Function => {}
+                _ => self.declare_one(node),
             }
+            at = skip(table, at);
         }
         at
     }

@@ -16,7 +16,8 @@ use script::Ending;
 use script::rows::NodeKind;
 use syntax::parts::{node_kind, part_count, statement_count};
 
-// `opened` calls are open.
+// `opened` calls are open: a parameter, since a return restores it, where a field would be put back on each way out.
+// Where parts stand and how many, `at` and `count`, differs from call to call, so they make no value.
 impl<'a> Walker<'a> {
     #[cycle(walk)]
     pub fn expression(&mut self, at: usize, opened: usize) -> Result<Valued, Stop>
@@ -41,22 +42,29 @@ impl<'a> Walker<'a> {
                 Ok(Valued { word, next: y.next })
             }
             NodeKind::Assignment => {
-                let x = self.expression(at + 1, opened)?;
-                self.assign(node.a, x.word);
-                Ok(x)
+                let value = self.expression(at + 1, opened)?;
+                self.assign(node.a, value.word);
+                Ok(value)
             }
             NodeKind::Call => self.call(at, opened),
             NodeKind::BayRead => {
-                let x = self.expression(at + 1, opened)?;
-                let word = read_bay(self.bays, x.word, at)?;
-                Ok(Valued { word, next: x.next })
+                let slot = self.expression(at + 1, opened)?;
+                let word = read_bay(self.bays, slot.word, at)?;
+                Ok(Valued {
+                    word,
+                    next: slot.next,
+                })
             }
             NodeKind::BayWrite => {
-                let x = self.expression(at + 1, opened)?;
-                let y = self.expression(x.next, opened)?;
-                let word = write_bay(self.bays, x.word, y.word, at)?;
-                Ok(Valued { word, next: y.next })
+                let slot = self.expression(at + 1, opened)?;
+                let value = self.expression(slot.next, opened)?;
+                let word = write_bay(self.bays, slot.word, value.word, at)?;
+                Ok(Valued {
+                    word,
+                    next: value.next,
+                })
             }
+            // never: an accepted table has an expression here
             _ => Ok(Valued {
                 word: 0,
                 next: at + 1,
@@ -64,8 +72,8 @@ impl<'a> Walker<'a> {
         }
     }
 
-    // The words of `count` arguments, into `given`; the index after them. By an index, since a proof knows nothing of what
-    // was written through `iter_mut`.
+    // The words of `count` arguments, into `given`; the index after them. By an index, since a proof knows nothing of
+    // what was written through `iter_mut`.
     #[cycle(walk)]
     fn arguments(
         &mut self,
@@ -97,10 +105,11 @@ impl<'a> Walker<'a> {
     {
         let node = self.table[at];
         let count = part_count(node);
-        // a call has at most 15 arguments, and no walk allocates
+        // a call has at most 15 arguments, and no walk allocates; zeros stand where there is none
         let mut given = [0; 15];
         let next = self.arguments(count, at + 1, opened, &mut given)?;
         let Some(f) = function(self.table, node.a) else {
+            // never: an accepted table declares what it calls
             return Ok(Valued { word: 0, next });
         };
         if opened == self.depth {
@@ -131,8 +140,8 @@ impl<'a> Walker<'a> {
         match node_kind(node) {
             NodeKind::ExpressionStatement => self.expression(at + 1, opened),
             NodeKind::Return => {
-                let x = self.expression(at + 1, opened)?;
-                Err(Stop::Returned(x.word))
+                let value = self.expression(at + 1, opened)?;
+                Err(Stop::Returned(value.word))
             }
             NodeKind::If => {
                 let test = self.expression(at + 1, opened)?;
@@ -150,6 +159,7 @@ impl<'a> Walker<'a> {
             }
             NodeKind::While => self.repeat(at, opened),
             NodeKind::Block => self.block(at, opened),
+            // never: an accepted table has a statement here
             _ => Ok(Valued {
                 word: 0,
                 next: at + 1,
@@ -157,7 +167,8 @@ impl<'a> Walker<'a> {
         }
     }
 
-    // A while: each turn spends one fuel before its test. What runs in a turn spends fuel too, so no `for` counts the turns.
+    // A while: each turn spends one fuel before its test. What runs in a turn spends fuel too, so no `for` counts the
+    // turns.
     #[cycle(walk)]
     fn repeat(&mut self, at: usize, opened: usize) -> Result<Valued, Stop>
         requires ready { StatementAhead self.old opened at }

@@ -6,7 +6,7 @@ use script::Record;
 use script::rows::part_count;
 
 // The index after `count` parts from `at`. Parts have parts, so it calls itself.
-fn past(table: &[Record], count: usize, at: usize) -> usize
+pub fn past(table: &[Record], count: usize, at: usize) -> usize
     requires { at ≤ length table.now }
     ensures next { result ≡ at + sizes (pieces table.now at count) }
     ensures within { result ≤ length table.now }

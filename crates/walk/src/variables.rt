@@ -1,5 +1,5 @@
 // A name means its newest binding.
-ghost use Rattle.std.specs.Prelude.{◌≡◌, ◌<◌, ◌≤◌, length, pos, IfSome};
+ghost use Rattle.std.specs.Prelude.{◌≡◌, ◌<◌, pos, IfSome};
 ghost use Rattle.syntax.specs.Syntax.{locate};
 ghost use Rattle.treerun.specs.TreeRun.{look_up, store, with_words};
 ghost use Rattle.walk.specs.Lent.{lent_in, state, Same, Bound};
@@ -10,30 +10,22 @@ use names::find::find;
 impl<'a> Walker<'a> {
     // The place of a name's newest binding.
     fn place(&self, name: u16) -> Option<usize>
-        requires { self.now.bound ≤ length self.now.names.now }
         ensures place { result ≡ locate name (state (lent_in self.now)).names }
         ensures below { IfSome result (λ i. i < self.now.bound) }
     {
         find(&self.names[..self.bound], name)
     }
 
-    // The word of a name.
+    // The word of a name; 0 where it has no binding, which an accepted program never asks.
     pub fn word_of(&self, name: u16) -> i32
-        requires names { self.now.bound ≤ length self.now.names.now }
-        requires words { self.now.bound ≤ length self.now.words.now }
         ensures { result ≡ look_up (pos 0) name (state (lent_in self.now)).names
             (state (lent_in self.now)).words }
     {
-        match self.place(name) {
-            Some(i) => self.words[i],
-            None => 0,
-        }
+        self.place(name).map_or(0, |i| self.words[i])
     }
 
     // A name's binding gets a word.
     pub fn assign(&mut self, name: u16, word: i32)
-        requires names { self.old.bound ≤ length self.old.names.now }
-        requires words { self.old.bound ≤ length self.old.words.now }
         ensures bindings { state (lent_in self.new)
             ≡ with_words (store name word (state (lent_in self.old)).names (state (lent_in self.old)).words)
             (state (lent_in self.old)) }

@@ -1,4 +1,6 @@
 // A walker: the table that it walks, what was lent to it, and how far it has come.
+ghost use Rattle.std.specs.Prelude.{◌≤◌, length};
+
 use racks::BayTable;
 use script::Record;
 
@@ -13,4 +15,6 @@ pub struct Walker<'a> {
     pub bays: &'a mut BayTable,
     pub bound: usize,
     pub fuel: u32,
+    ghost names_fit: { bound ≤ length names.now },
+    ghost words_fit: { bound ≤ length words.now },
 }

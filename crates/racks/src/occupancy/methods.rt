@@ -36,7 +36,7 @@ impl OccupancyRack {
         requires { slot < length (occupancy_bays self.now) }
         ensures { Some result ≡ slice_get (occupancy_bays self.now) slot }
     {
-        ((self.words[slot / 64] >> (slot % 64)) & 1) as i32
+        i32::from((self.words[slot / 64] >> (slot % 64)) & 1 == 1)
     }
 
     fn put(&mut self, slot: usize, word: i32)
@@ -74,11 +74,7 @@ impl Rack for OccupancyRack {
     }
 
     fn read(&self, slot: usize) -> Option<i32> {
-        if slot < self.length() {
-            Some(self.word_at(slot))
-        } else {
-            None
-        }
+        (slot < self.length()).then(|| self.word_at(slot))
     }
 
     fn write(&mut self, slot: usize, word: i32) -> Result<(), BayFault> {

@@ -1,8 +1,6 @@
 // What can be done with a translation.
 ghost use Rattle.std.specs.Prelude.{◌≡◌, ◌*◌, ◌≤◌, map, length, IfOk};
-ghost use Rattle.script.specs.declared.rows.Sort.TheVariants.{Program};
 ghost use Rattle.syntax.specs.Syntax.{name_of, functions_of, globals_of};
-ghost use Rattle.syntax.specs.Trees.{Part};
 ghost use Rattle.syntax.specs.Typed.{program_of};
 ghost use Rattle.names.specs.Names.{signature};
 ghost use Rattle.names.specs.Tables.{main_at, table_rules};
@@ -11,8 +9,7 @@ ghost use Rattle.translator.specs.Translations.{held, nothing_held, translated, 
 use crate::emitter::Emitter;
 use crate::translation::Translation;
 use code::instruction::{Code, FunctionEntry, Instruction, Operation};
-use names::{Context, Signature, Summary, check_names};
-use script::shape::check_shape;
+use names::{Context, Declared, Signature, SoundTable, Summary, check_names};
 use script::{Record, Refusal};
 use stack::Stack;
 use std::alloc::{AllocError, Global};
@@ -39,34 +36,25 @@ impl Translation {
         ensures short { IfOk result
             (λ _. length (held self.new).code ≤ 4 * length table.now) }
     {
-        check_shape(table)?;
-        // the two stacks borrow their arrays, so no struct could hold all four
+        let table = SoundTable::new(table)?;
         let mut names: [u16; 128] = [0; 128];
         let mut signatures = [Signature::default(); 128];
-        let mut globals = Stack::new(&mut names, 0);
-        let mut functions = Stack::new(&mut signatures, 0);
-        let summary = check_names(table, &mut globals, &mut functions)?;
-        let context = Context {
-            table,
-            globals: globals.live(),
-            functions: functions.live(),
-        };
-        self.fill(context, summary.main);
+        let mut declared = Declared::new(&mut names, &mut signatures);
+        let summary = check_names(table, &mut declared)?;
+        self.fill(declared.context(table), summary.main);
         Ok(summary)
     }
 
     // Writes the code of a whole program, whose statement is at `main`: four instructions a record suffice. Each name in
     // scope has a record of its own, so there is room for all.
     fn fill(&mut self, context: Context<'_>, main: usize)
-        requires part { Part context.table.now 0 Program }
-        requires small { length context.table.now ≤ 1024 }
-        requires after { main ≡ main_at context.table.now }
+        requires after { main ≡ main_at context.table.records.now }
         requires variables { context.globals.now
-            ≡ map name_of (globals_of (program_of context.table.now)) }
+            ≡ map name_of (globals_of (program_of context.table.records.now)) }
         requires signatures { context.functions.now
-            ≡ map signature (functions_of (program_of context.table.now).declarations) }
-        ensures made { held self.new ≡ translation_of (program_of context.entry.table.now) }
-        ensures short { length (held self.new).code ≤ 4 * length context.entry.table.now }
+            ≡ map signature (functions_of (program_of context.table.records.now).declarations) }
+        ensures made { held self.new ≡ translation_of (program_of context.entry.table.records.now) }
+        ensures short { length (held self.new).code ≤ 4 * length context.entry.table.records.now }
     {
         self.clear();
         let mut names: [u16; 1024] = [0; 1024];
@@ -75,10 +63,11 @@ impl Translation {
             context,
             scope: &mut scope,
             code: &mut self.code,
+            leave: Operation::Halt,
         };
-        emitter.statement(main, Operation::Halt);
+        emitter.statement(main);
         emitter.append(Operation::Halt, 0);
-        let count = context.table[0].a as usize;
+        let count = context.table.records[0].a as usize;
         emitter.declarations(count, 1, &mut self.entries, &mut self.globals);
     }
 

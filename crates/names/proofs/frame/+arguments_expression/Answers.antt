@@ -1,30 +1,21 @@
 use Rattle.std.proofs.Common.{◌≡◌, ℕ, ◌+◌, ◌-◌, ◌<◌, refl, ap, add-one, arith}
-use Rattle.script.specs.declared.rows.Sort.TheVariants.{Expression}
 use Rattle.syntax.specs.Trees.{tree_at, size, no_record}
 use Rattle.syntax.specs.Typed.{arguments_of, arguments_at}
 use Rattle.names.specs.Need.{need_arguments}
-use Rattle.syntax.proofs.Expressions.{Firsts, expressed, firsts}
+use Rattle.syntax.proofs.Expressions.{expressed}
 use Rattle.names.proofs.Rules.{expression-need}
+use Rattle.names.proofs.Several.{several}
+use Rattle.names.proofs.Standing.{expression-parts}
 use Rattle.names.proofs.frame.+arguments_expression.Goals as goal
-use Rattle.names.proofs.frame.+arguments_expression.Goals.{arguments-In-loop-below}
-
--- The first of the arguments that are left, and those from m on.
-several : (t : ℕ) (c : arguments-In-loop-below t) (m : ℕ) →
-    m ≡ c.loop-below.found.next + size (tree_at c.args.table.now c.loop-below.found.next) →
-    Firsts c.args.table.now c.loop-below.found.next (c.args.count - c.loop-below.below) m Expression
-several t c m e =
-    let k : 0 < c.args.count - c.loop-below.below = omega arith in
-    firsts c.args.table.now c.loop-below.found.next _ m _ k c.loop-below.invariant.parts.sound e
 
 pub arguments-expression-part-requires : goal.arguments-expression-part-requires
 arguments-expression-part-requires t c =
-    let p = several t (goal.at.arguments-expression-part-requires t c).In-loop-below _ refl in
+    let p = several c.loop-below.invariant.parts (omega arith) refl in
     (omega arith, record { within = p.within; sound = p.first })
 
 pub arguments-loop-below-preserved : goal.arguments-loop-below-preserved
 arguments-loop-below-preserved t c =
-    let p = several t (goal.at.arguments-loop-below-preserved t c).In-loop-below c.expression-part.result.next
-    c.expression-part.ensures.next in
+    let p = several c.loop-below.invariant.parts (omega arith) c.expression-part.ensures.next in
     let e : c.args.count - c.loop-below.below - 1 ≡ c.args.count - (c.loop-below.below + 1) = omega arith in
     let n = ap (λ f. need_arguments (arguments_of f) c.loop-below.below) p.parts in
     let s = ap (need_arguments (arguments_at c.args.table.now c.expression-part.result.next
@@ -39,14 +30,12 @@ arguments-loop-below-preserved t c =
 
 pub expression-arguments-requires : goal.expression-arguments-requires
 expression-arguments-requires t c =
-    let p = expressed c.args.table.now c.args.at _ no_record c.requires.within c.requires.sound
-    c.part_count.ensures in
+    let p = expression-parts c.requires c.part_count.ensures in
     (omega arith, record { within = p.within; sound = p.sound })
 
 pub expression-returns : goal.expression-returns
 expression-returns t c =
-    let p = expressed c.args.table.now c.args.at _ no_record c.requires.within c.requires.sound
-    c.part_count.ensures in
+    let p = expression-parts c.requires c.part_count.ensures in
     record {
       words = omega (arith, expression-need _ _ _ _ p);
       next = omega (arith, p.whole);

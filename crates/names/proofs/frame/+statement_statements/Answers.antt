@@ -1,44 +1,38 @@
 use Rattle.std.proofs.Common.{◌≡◌, ℕ, ◌+◌, ◌-◌, ◌<◌, sym, refl, ap, ◌∙◌, arith}
-use Rattle.script.specs.declared.rows.Sort.TheVariants.{Statement}
 use Rattle.syntax.specs.Trees.{tree_at, size, no_record}
 use Rattle.syntax.specs.Typed.{statements_of}
 use Rattle.names.specs.Need.{need_statements}
-use Rattle.syntax.proofs.Expressions.{Firsts, firsts}
 use Rattle.syntax.proofs.Statements.{stated, blocked}
 use Rattle.names.proofs.Rules.{statement-need, block-need}
+use Rattle.names.proofs.Several.{several}
+use Rattle.names.proofs.Standing.{block-parts, plain-parts}
 use Rattle.names.proofs.frame.+statement_statements.Goals as goal
-use Rattle.names.proofs.frame.+statement_statements.Goals.{statements-In-loop}
 
 pub statement-statements-body-requires : goal.statement-statements-body-requires
 statement-statements-body-requires t c =
-    let p = blocked c.args.table.now c.args.at _ _ _ no_record c.requires.within c.requires.sound
-    (sym c.in-Block.ensures) refl c.statement_count-count.ensures refl in
+    let p = block-parts c.requires (sym c.in-Block.ensures) refl c.statement_count-count.ensures refl in
     (omega (arith, p.within), (record { within = p.within; sound = p.others }, omega arith))
 
 pub statement-expression-test-requires : goal.statement-expression-test-requires
 statement-expression-test-requires t c =
-    let p = stated c.args.table.now c.args.at _ _ no_record c.requires.within c.requires.sound
-    (λ e. c.in_default.not-Block (c.node_kind.ensures ∙ e)) refl refl in
+    let p = plain-parts c.requires (λ e. c.in_default.not-Block (c.node_kind.ensures ∙ e)) refl refl in
     record { within = p.within; sound = p.test_sound }
 
 pub statement-statements-body-requires-in_default : goal.statement-statements-body-requires-in_default
 statement-statements-body-requires-in_default t c =
-    let p = stated c.args.table.now c.args.at _ c.expression-test.result.next no_record c.requires.within
-    c.requires.sound (λ e. c.in_default.not-Block (c.node_kind.ensures ∙ e)) c.statement_count-count.ensures
+    let p = plain-parts c.requires (λ e. c.in_default.not-Block (c.node_kind.ensures ∙ e)) c.statement_count-count.ensures
     c.expression-test.ensures.next in
     (omega (arith, p.within), (record { within = omega arith; sound = p.others }, omega arith))
 
 pub statement-returns-in-Block : goal.statement-returns-in-Block
 statement-returns-in-Block t c =
-    let p = blocked c.args.table.now c.args.at _ _ _ no_record c.requires.within c.requires.sound
-    (sym c.in-Block.ensures) refl c.statement_count-count.ensures refl in
+    let p = block-parts c.requires (sym c.in-Block.ensures) refl c.statement_count-count.ensures refl in
     let e = block-need _ _ _ _ _ p in
     record { words = omega (arith, e); next = omega (arith, p.whole); bound = omega arith; ends = omega arith }
 
 pub statement-returns-in_default : goal.statement-returns-in_default
 statement-returns-in_default t c =
-    let p = stated c.args.table.now c.args.at _ c.expression-test.result.next no_record c.requires.within
-    c.requires.sound (λ e. c.in_default.not-Block (c.node_kind.ensures ∙ e)) c.statement_count-count.ensures
+    let p = plain-parts c.requires (λ e. c.in_default.not-Block (c.node_kind.ensures ∙ e)) c.statement_count-count.ensures
     c.expression-test.ensures.next in
     record {
       words = omega (arith, statement-need _ _ _ _ _ p);
@@ -48,22 +42,14 @@ statement-returns-in_default t c =
       ends = omega arith;
     }
 
--- The first of the statements that are left, and those from m on.
-several : (t : ℕ) (c : statements-In-loop t) (m : ℕ) →
-    m ≡ c.loop.found.next + size (tree_at c.args.table.now c.loop.found.next) →
-    Firsts c.args.table.now c.loop.found.next (c.args.count - c.loop.counter) m Statement
-several t c m e =
-    let k : 0 < c.args.count - c.loop.counter = omega arith in
-    firsts c.args.table.now c.loop.found.next _ m _ k c.loop.invariant.parts.sound e
-
 pub statements-statement-part-requires : goal.statements-statement-part-requires
 statements-statement-part-requires t c =
-    let p = several t (goal.at.statements-statement-part-requires t c).In-loop _ refl in
+    let p = several c.loop.invariant.parts (omega arith) refl in
     (omega arith, record { within = p.within; sound = p.first })
 
 pub statements-loop-preserved : goal.statements-loop-preserved
 statements-loop-preserved t c =
-    let p = several t (goal.at.statements-loop-preserved t c).In-loop c.statement-part.result.next c.statement-part.ensures.next in
+    let p = several c.loop.invariant.parts (omega arith) c.statement-part.ensures.next in
     let e : c.args.count - c.loop.counter - 1 ≡ c.args.count - (c.loop.counter + 1) = omega arith in
     let n = ap (λ f. need_statements (statements_of f) c.args.below) p.parts in
     rw (← e) record {

@@ -1,54 +1,42 @@
 use Rattle.std.proofs.Common.{◌≡◌, ℕ, ◌+◌, ◌-◌, ◌<◌, ◌≤◌, length, get_or, sym, refl, ap, ◌∙◌, arith}
-use Rattle.std.proofs.lemmas.Result.{err_from_is_err_and}
 use Rattle.stack.specs.Store.{contents}
 use Rattle.stack.proofs.Contents.{length-contents, contents-cut}
-use Rattle.script.specs.declared.rows.Sort.TheVariants.{Statement}
 use Rattle.syntax.specs.Trees.{tree_at, size, no_record}
-use Rattle.syntax.proofs.Expressions.{Firsts, firsts}
 use Rattle.syntax.proofs.Statements.{Blocked, Stated, stated, blocked}
 use Rattle.names.specs.Passes.{checked_expression}
 use Rattle.names.proofs.Blocks.{locals-refused, block-answered, test-refused, plain-answered}
-use Rattle.names.proofs.Outcomes.{refused, went, on}
+use Rattle.names.proofs.Outcomes.{handed, refused, went, on}
 use Rattle.names.proofs.Scopes.{dropped}
+use Rattle.names.proofs.Several.{several}
+use Rattle.names.proofs.Standing.{block-parts, plain-parts}
 use Rattle.names.proofs.context.Context.+statement_statements.Goals as goal
-use Rattle.names.proofs.context.Context.+statement_statements.Goals.{statement-In_ok-first-in-Block, statement-In_ok-next-in_default, statements-In-loop}
+use Rattle.names.proofs.context.Context.+statement_statements.Goals.{statement-In_ok-first-in-Block}
+use Rattle.names.proofs.context.Context.+statement_statements.Goals.{statement-In_ok-next-in_default}
 
--- A block past its locals, another statement past its expression, the first of the statements that are left.
+-- A block past its locals, and another statement past its expression.
 block : (t : ℕ) (c : statement-In_ok-first-in-Block t) →
-    Blocked c.args.self.now.table.now c.args.at (get_or c.args.self.now.table.now c.args.at no_record).a
+    Blocked c.args.self.now.table.records.now c.args.at (get_or c.args.self.now.table.records.now c.args.at no_record).a
     c.statement_count-count.result c.in_ok-first-in-Block.first
 block t c =
     let w = went _ _ _ c.in_ok-first-in-Block.ensures.answer in
-    blocked c.args.self.now.table.now c.args.at _ _ c.in_ok-first-in-Block.first no_record c.requires.part.within
-    c.requires.part.sound (sym c.in-Block.ensures) refl c.statement_count-count.ensures w.1
+    block-parts c.requires.part (sym c.in-Block.ensures) refl c.statement_count-count.ensures w.1
 
 plain : (t : ℕ) (c : statement-In_ok-next-in_default t) →
-    Stated c.args.self.now.table.now c.args.at c.statement_count-count.result c.in_ok-next-in_default.next
-    (get_or c.args.self.now.table.now c.args.at no_record)
+    Stated c.args.self.now.table.records.now c.args.at c.statement_count-count.result c.in_ok-next-in_default.next
+    (get_or c.args.self.now.table.records.now c.args.at no_record)
 plain t c =
     let w = went _ _ _ c.in_ok-next-in_default.ensures in
-    stated c.args.self.now.table.now c.args.at _ c.in_ok-next-in_default.next no_record c.requires.part.within
-    c.requires.part.sound (λ e. c.in_default.not-Block (c.node_kind.ensures ∙ e)) c.statement_count-count.ensures w.1
-
-several : (t : ℕ) (c : statements-In-loop t) (m : ℕ) →
-    m ≡ c.loop.next + size (tree_at c.args.self.now.table.now c.loop.next) →
-    Firsts c.args.self.now.table.now c.loop.next (c.args.count - c.loop.counter) m Statement
-several t c m e =
-    let k : 0 < c.args.count - c.loop.counter = omega arith in
-    firsts c.args.self.now.table.now c.loop.next _ m _ k c.loop.invariant.parts.sound e
+    plain-parts c.requires.part (λ e. c.in_default.not-Block (c.node_kind.ensures ∙ e)) c.statement_count-count.ensures w.1
 
 pub statement-locals-requires : goal.statement-locals-requires
 statement-locals-requires t c =
-    let p = blocked c.args.self.now.table.now c.args.at _ _ _ no_record c.requires.part.within c.requires.part.sound
-    (sym c.in-Block.ensures) refl refl refl in
-    record { within = p.within; sound = p.locals; room = omega (arith, p.within) }
+    let p = block-parts c.requires.part (sym c.in-Block.ensures) refl refl refl in
+    record { parts = record { within = p.within; leaves = p.locals }; room = omega (arith, p.within) }
 
 pub statement-returns-in_err-first-in-Block-clause-answer : goal.statement-returns-in_err-first-in-Block-clause-answer
 statement-returns-in_err-first-in-Block-clause-answer t c =
-    let p = blocked c.args.self.now.table.now c.args.at _ _ _ no_record c.requires.part.within c.requires.part.sound
-    (sym c.in-Block.ensures) refl refl refl in
-    let q = err_from_is_err_and c.from_residual.result c.from_residual.ensures.1 in
-    rw (q.1, q.2)
+    let p = block-parts c.requires.part (sym c.in-Block.ensures) refl refl refl in
+    handed c.from_residual.ensures.1
     (locals-refused c.args.self.now (contents c.args.scope.now) c.args.at _ _ _ p _ c.in_err-first-in-Block.ensures.answer)
 
 pub statement-statements-requires : goal.statement-statements-requires
@@ -65,26 +53,20 @@ statement-statements-requires t c =
 pub statement-returns-in_err-next-in-Block-clause-answer : goal.statement-returns-in_err-next-in-Block-clause-answer
 statement-returns-in_err-next-in-Block-clause-answer t c =
     let p = block t (goal.at.statement-returns-in_err-next-in-Block-clause-answer t c).In_ok-first-in-Block in
-    let q = err_from_is_err_and c.from_residual-in_err-next-in-Block.result
-    c.from_residual-in_err-next-in-Block.ensures.1 in
-    rw (q.1, q.2)
+    handed c.from_residual-in_err-next-in-Block.ensures.1
     (block-answered c.args.self.now (contents c.args.scope.now) c.args.at _ _ _ p _ _
     c.in_ok-first-in-Block.ensures.answer c.in_ok-first-in-Block.ensures.bound c.in_err-next-in-Block.ensures.answer)
 
 pub statement-expression-requires : goal.statement-expression-requires
 statement-expression-requires t c =
-    let p = stated c.args.self.now.table.now c.args.at _ _ no_record c.requires.part.within c.requires.part.sound
-    (λ e. c.in_default.not-Block (c.node_kind.ensures ∙ e)) refl refl in
+    let p = plain-parts c.requires.part (λ e. c.in_default.not-Block (c.node_kind.ensures ∙ e)) refl refl in
     record { within = p.within; sound = p.test_sound }
 
 pub statement-returns-in_err-next-in_default-clause-answer : goal.statement-returns-in_err-next-in_default-clause-answer
 statement-returns-in_err-next-in_default-clause-answer t c =
-    let p = stated c.args.self.now.table.now c.args.at _ _ no_record c.requires.part.within c.requires.part.sound
-    (λ e. c.in_default.not-Block (c.node_kind.ensures ∙ e)) refl refl in
-    let q = err_from_is_err_and c.from_residual-in_err-next-in_default.result
-    c.from_residual-in_err-next-in_default.ensures.1 in
-    rw (q.1, q.2, ← c.live.ensures)
-    (test-refused c.args.self.now c.live.result.now c.args.at _ _ _ p _ c.in_err-next-in_default.ensures)
+    let p = plain-parts c.requires.part (λ e. c.in_default.not-Block (c.node_kind.ensures ∙ e)) refl refl in
+    handed c.from_residual-in_err-next-in_default.ensures.1 (rw (← c.live.ensures)
+    (test-refused c.args.self.now c.live.result.now c.args.at _ _ _ p _ c.in_err-next-in_default.ensures))
 
 pub statement-statements-requires-in_default : goal.statement-statements-requires-in_default
 statement-statements-requires-in_default t c =
@@ -125,22 +107,21 @@ statement-returns-in_ok-next-in_default-clause-answer t c =
 
 pub statements-statement-requires : goal.statements-statement-requires
 statements-statement-requires t c =
-    let p = several t (goal.at.statements-statement-requires t c).In-loop _ refl in
+    let p = several c.loop.invariant.parts (omega arith) refl in
     (omega arith, (record { within = p.within; sound = p.first }, omega arith))
 
 pub statements-returns-in_err-next-clause-answer : goal.statements-returns-in_err-next-clause-answer
 statements-returns-in_err-next-clause-answer t c =
     let i = c.loop.invariant in
-    let p = several t (goal.at.statements-returns-in_err-next-clause-answer t c).In-loop _ refl in
-    let q = err_from_is_err_and c.from_residual.result c.from_residual.ensures.1 in
-    rw (q.1, q.2, ← i.answer, p.parts) (refused _ _ _ _ _ (rw i.names at c.in_err-next.ensures.answer))
+    let p = several c.loop.invariant.parts (omega arith) refl in
+    handed c.from_residual.ensures.1 (rw (← i.answer, p.parts) (refused _ _ _ _ _ (rw i.names at c.in_err-next.ensures.answer)))
 
 pub statements-loop-preserved : goal.statements-loop-preserved
 statements-loop-preserved t c =
     let i = c.loop.invariant in
     let d = c.in_ok-next.ensures in
     let w = went _ _ _ (rw i.names at d.answer) in
-    let p = several t (goal.at.statements-loop-preserved t c).In-loop c.in_ok-next.next w.1 in
+    let p = several c.loop.invariant.parts (omega arith) w.1 in
     let e : c.args.count - c.loop.counter - 1 ≡ c.args.count - (c.loop.counter + 1) = omega arith in
     rw (← e) record {
       parts = record { within = omega (arith, p.ends); sound = p.others };

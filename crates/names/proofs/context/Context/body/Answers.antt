@@ -1,53 +1,49 @@
 use Rattle.std.proofs.Common.{◌≡◌, ◌+◌, reverse, length, get_or, sym, refl, ap, ◌∙◌, arith, lit<}
-use Rattle.std.proofs.lemmas.Result.{err_from_is_err_and}
 use Rattle.stack.specs.Store.{capacity}
 use Rattle.syntax.specs.Trees.{tree_at, size, no_record}
 use Rattle.syntax.specs.Typed.{declarations_at}
 use Rattle.syntax.proofs.Expressions.{firsts}
 use Rattle.syntax.proofs.Declarations.{FirstFunction, first_function, first-variable}
-use Rattle.names.proofs.Outcomes.{went}
+use Rattle.names.proofs.Outcomes.{handed, went}
 use Rattle.names.proofs.Scopes.{empty}
 use Rattle.names.proofs.Functions.{parameters-refused, function-answered, variable-answered}
+use Rattle.names.proofs.Standing.{function-parts, variable-parts}
 use Rattle.names.proofs.context.Context.body.Goals as goal
 use Rattle.names.proofs.context.Context.body.Goals.{After-part_count, In_ok-body-in-Function}
 
 pub bounds-self-at : goal.bounds-self-at
 bounds-self-at c =
-    (firsts c.args.self.now.table.now c.args.at 1 _ _ (lit< tt) c.requires.parts.sound refl).within
+    (firsts c.args.self.now.table.records.now c.args.at 1 _ _ (lit< tt) c.requires.parts.sound refl).within
 
 -- A function, and a function past its parameters.
 function : (c : After-part_count) →
     let m = c.args.at + 1 + c.part_count.result in
-    FirstFunction c.args.self.now.table.now c.args.at 1 c.part_count.result m (m + size (tree_at c.args.self.now.table.now m))
-    (get_or c.args.self.now.table.now c.args.at no_record)
+    FirstFunction c.args.self.now.table.records.now c.args.at 1 c.part_count.result m (m + size (tree_at c.args.self.now.table.records.now m))
+    (get_or c.args.self.now.table.records.now c.args.at no_record)
 function c =
-    first_function c.args.self.now.table.now c.args.at 1 c.part_count.result _ _ no_record (lit< tt) c.requires.parts.sound
-    (sym c.in-Function.ensures) c.part_count.ensures refl refl
+    function-parts c.requires.parts (sym c.in-Function.ensures) c.part_count.ensures refl refl
 
 function-past : (c : In_ok-body-in-Function) →
     let m = c.in_ok-body-in-Function.body in
-    FirstFunction c.args.self.now.table.now c.args.at 1 c.part_count.result m (m + size (tree_at c.args.self.now.table.now m))
-    (get_or c.args.self.now.table.now c.args.at no_record)
+    FirstFunction c.args.self.now.table.records.now c.args.at 1 c.part_count.result m (m + size (tree_at c.args.self.now.table.records.now m))
+    (get_or c.args.self.now.table.records.now c.args.at no_record)
 function-past c =
     let w = went _ _ _ c.in_ok-body-in-Function.ensures.answer in
-    first_function c.args.self.now.table.now c.args.at 1 c.part_count.result _ _ no_record (lit< tt) c.requires.parts.sound
-    (sym c.in-Function.ensures) c.part_count.ensures w.1 refl
+    function-parts c.requires.parts (sym c.in-Function.ensures) c.part_count.ensures w.1 refl
 
 pub locals-requires : goal.locals-requires
 locals-requires c =
     let p = function (goal.at.locals-requires c).After-part_count in
     let s : capacity c.new-scope.result ≡ length c.args.names.now = ap length c.new-scope.ensures.words in
     record {
-      within = omega (arith, p.function.within);
-      sound = p.function.parameters;
+      parts = record { within = omega (arith, p.function.within); leaves = p.function.parameters };
       room = omega (arith, p.function.within);
     }
 
 pub returns-in_err-body-in-Function : goal.returns-in_err-body-in-Function
 returns-in_err-body-in-Function c =
     let p = function (goal.at.returns-in_err-body-in-Function c).After-part_count in
-    let q = err_from_is_err_and c.from_residual.result c.from_residual.ensures.1 in
-    rw (q.1, q.2)
+    handed c.from_residual.ensures.1
     (parameters-refused c.args.self.now c.args.at _ _ _ _ p _ (empty c.new-scope.result c.new-scope.ensures.height) _
     c.in_err-body-in-Function.ensures.answer)
 
@@ -64,8 +60,7 @@ returns-in_ok-body-in-Function c =
 
 pub returns-in_default : goal.returns-in_default
 returns-in_default c =
-    let table = c.args.self.now.table.now in
-    let p = first-variable table c.args.at 1 no_record (lit< tt) c.requires.parts.sound
-    (λ e. c.in_default.not-Function (c.node_kind.ensures ∙ e)) in
+    let table = c.args.self.now.table.records.now in
+    let p = variable-parts c.requires.parts (λ e. c.in_default.not-Function (c.node_kind.ensures ∙ e)) in
     variable-answered (reverse c.args.self.now.globals.now) c.args.self.now.functions.now
     (declarations_at table c.args.at 1) _ _ _ p.is (omega (arith, p.whole))

@@ -36,7 +36,7 @@ other-bit (pos (suc n)) held apart = ap pos (one n (leb-true (suc n) 1 held))
   where
     one : (n : ℕ) → suc n ≤ 1 → suc n ≡ 1
     one n h = omega arith
-other-bit (negsuc n) held apart = let clash : ◌≡◌ {A = ℕ} 0 1 = cc in absurd (omega arith)
+other-bit (negsuc n) held apart = absurd cc
 
 pub returns-else-word-eq0 : goal.returns-else-word-eq0
 returns-else-word-eq0 c =

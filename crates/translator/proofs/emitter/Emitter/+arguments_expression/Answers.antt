@@ -10,6 +10,7 @@ use Rattle.translator.proofs.Declared.{moved}
 use Rattle.translator.proofs.Emitters.{kept, same_table, operation-kept, expression-kept}
 use Rattle.translator.proofs.Lists.{joined, put_as}
 use Rattle.translator.proofs.Parts.{expression-code}
+use Rattle.names.proofs.Standing.{expression-parts}
 use Rattle.translator.proofs.emitter.Emitter.+arguments_expression.Goals as goal
 
 pub arguments-expression-next-requires : goal.arguments-expression-next-requires
@@ -17,7 +18,7 @@ arguments-expression-next-requires t c =
     let a : Emitter = c.args.self.now in
     let k : 0 < c.args.count - c.loop.counter = omega arith in
     let left = c.loop.invariant in
-    let p = firsts a.context.table.now c.loop.next (c.args.count - c.loop.counter) _ _ k left.left.sound refl in
+    let p = firsts a.context.table.records.now c.loop.next (c.args.count - c.loop.counter) _ _ k left.left.sound refl in
     rw (same_table a c.loop.self left.keeps.loans) (
       omega (arith, p.within, left.further),
       (record { within = p.within; sound = p.first }, omega (arith, p.whole, left.len, left.keeps.loans.code_capacity)),
@@ -31,7 +32,7 @@ arguments-loop-preserved t c =
     let left = c.loop.invariant in
     let done = c.expression-next.ensures in
     let same = same_table a c.loop.self left.keeps.loans in
-    let p = firsts a.context.table.now c.loop.next (c.args.count - c.loop.counter) c.expression-next.result _ k left.left.sound
+    let p = firsts a.context.table.records.now c.loop.next (c.args.count - c.loop.counter) c.expression-next.result _ k left.left.sound
     (rw same at done.next) in
     let n = rw same at done.len in
     rw (← j) record {
@@ -46,22 +47,19 @@ arguments-loop-preserved t c =
 
 pub expression-arguments-next-requires : goal.expression-arguments-next-requires
 expression-arguments-next-requires t c =
-    let p = expressed c.args.self.now.context.table.now c.args.at _ no_record c.requires.part.within
-    c.requires.part.sound c.part_count.ensures in
+    let p = expression-parts c.requires.part c.part_count.ensures in
     (omega (arith, p.within), (record { within = p.within; sound = p.sound }, omega (arith, p.whole)))
 
 pub expression-append-requires : goal.expression-append-requires
 expression-append-requires t c =
-    let p = expressed c.args.self.now.context.table.now c.args.at _ no_record c.requires.part.within
-    c.requires.part.sound c.part_count.ensures in
+    let p = expression-parts c.requires.part c.part_count.ensures in
     omega (arith, p.whole, c.arguments-next.ensures.keeps.loans.code_capacity)
 
 pub expression-returns : goal.expression-returns
 expression-returns t c =
     let a : Emitter = c.args.self.now in
     let e : Emitter = c.arguments-next.new.self in
-    let p = expressed a.context.table.now c.args.at _ no_record c.requires.part.within c.requires.part.sound
-    c.part_count.ensures in
+    let p = expression-parts c.requires.part c.part_count.ensures in
     record {
       items = rw (expression-code (reverse a.context.globals.now) a.context.functions.now (reverse (contents a.scope.now)) _ _ _ _ p)
           (joined (vec_items a.code.now) (arguments_here a (c.args.at + 1) c.part_count.result) _ _ _

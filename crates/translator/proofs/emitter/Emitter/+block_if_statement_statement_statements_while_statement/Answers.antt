@@ -8,6 +8,7 @@ use Rattle.syntax.proofs.Expressions.{firsts}
 use Rattle.syntax.proofs.Statements.{blocked, bound}
 use Rattle.syntax.proofs.Shapes.{simple-kind, simple-at, return-at, chosen, looped}
 use Rattle.names.proofs.Scopes.{dropped}
+use Rattle.code.specs.declared.instruction.Operation.{Operation}
 use Rattle.code.specs.declared.instruction.Operation.TheVariants.{Jmp}
 use Rattle.code.specs.Scheme.{op}
 use Rattle.translator.specs.declared.emitter.Emitter.{Emitter}
@@ -16,6 +17,7 @@ use Rattle.translator.proofs.Lists.{joined, put_as, long}
 use Rattle.translator.proofs.Codes.{if-code, while-code, then-code, block-code}
 use Rattle.translator.proofs.Emitters.{same_loans, kept, same_table, expression-kept, statement-kept, statements-under}
 use Rattle.translator.proofs.Steps.{ready, several-ready, halfway, tested, locals, inside}
+use Rattle.names.proofs.Standing.{block-parts}
 use Rattle.translator.proofs.emitter.Emitter.+block_if_statement_statement_statements_while_statement.Goals as goal
 
 pub if_statement-expression-first-requires : goal.if_statement-expression-first-requires
@@ -61,9 +63,9 @@ if_statement-returns t c =
     let n = rw (same_table _ _ k.loans) at c.statement-next.ensures.next in
     record {
       items = rw h.shape.is
-          (if-code (reverse a.context.globals.now) a.context.functions.now c.args.leave (reverse (contents a.scope.now)) c.args.at
-          (expression_at a.context.table.now (c.args.at + 1)) (statement_at a.context.table.now c.expression-first.result)
-          (statement_at a.context.table.now c.statement-second.result) (vec_items a.code.now)
+          (if-code (reverse a.context.globals.now) a.context.functions.now a.leave (reverse (contents a.scope.now)) c.args.at
+          (expression_at a.context.table.records.now (c.args.at + 1)) (statement_at a.context.table.records.now c.expression-first.result)
+          (statement_at a.context.table.records.now c.statement-second.result) (vec_items a.code.now)
           _ _ _ _ _ _ _ (vec_len a.code.now) c.len-test.result (vec_len c.append.new.self.code.now)
           c.len-skip.result c.len-other.result (vec_len c.patch.new.self.code.now) c.len-end.result _ _
           (long a.code.now) (long c.expression-first.new.self.code.now ∙ sym c.len-test.ensures)
@@ -71,9 +73,9 @@ if_statement-returns t c =
           (long c.append-2.new.self.code.now ∙ sym c.len-other.ensures) (long c.patch.new.self.code.now)
           (long c.statement-next.new.self.code.now ∙ sym c.len-end.ensures)
           c.expression-first.ensures.items c.append.ensures.items
-          (put_as _ c.statement-second.ensures.items (statement-kept a c.append.new.self h.keeps c.args.leave c.expression-first.result))
+          (put_as _ c.statement-second.ensures.items (statement-kept a c.append.new.self h.keeps c.expression-first.result))
           c.append-2.ensures.items c.patch.ensures.items
-          (put_as _ c.statement-next.ensures.items (statement-kept a c.patch.new.self k c.args.leave c.statement-second.result))
+          (put_as _ c.statement-next.ensures.items (statement-kept a c.patch.new.self k c.statement-second.result))
           c.patch-2.ensures.items);
       bound = (omega arith, omega (arith, h.shape.whole));
       keeps = kept (kept k c.statement-next.ensures.keeps) c.patch-2.ensures.keeps;
@@ -161,8 +163,8 @@ while_statement-returns t c =
     let n = rw (same_table _ _ h.keeps.loans) at c.statement-next.ensures.next in
     record {
       items = rw h.shape.is
-          (while-code (reverse a.context.globals.now) a.context.functions.now c.args.leave (reverse (contents a.scope.now)) c.args.at
-          (expression_at a.context.table.now (c.args.at + 1)) (statement_at a.context.table.now c.expression-body.result)
+          (while-code (reverse a.context.globals.now) a.context.functions.now a.leave (reverse (contents a.scope.now)) c.args.at
+          (expression_at a.context.table.records.now (c.args.at + 1)) (statement_at a.context.table.records.now c.expression-body.result)
           (vec_items a.code.now) _ _ _ _ _ _ _ _ (vec_len a.code.now)
           c.len-test.result (vec_len c.append-2.new.self.code.now) c.len-end.result _
           (long a.code.now) (long c.expression-body.new.self.code.now ∙ sym c.len-test.ensures)
@@ -170,7 +172,7 @@ while_statement-returns t c =
           c.append.ensures.items
           (put_as _ c.expression-body.ensures.items (expression-kept a c.append.new.self c.append.ensures.keeps (c.args.at + 1)))
           c.append-2.ensures.items
-          (put_as _ c.statement-next.ensures.items (statement-kept a c.append-2.new.self h.keeps c.args.leave c.expression-body.result))
+          (put_as _ c.statement-next.ensures.items (statement-kept a c.append-2.new.self h.keeps c.expression-body.result))
           c.append-3.ensures.items
           (put_as _ c.append-4.ensures.items (ap (λ (z : ℕ). op c.args.at (Jmp z) ∷ []) c.len-again.ensures))
           c.patch.ensures.items c.append-5.ensures.items);
@@ -181,17 +183,16 @@ while_statement-returns t c =
 
 pub block-enter-requires : goal.block-enter-requires
 block-enter-requires t c =
-    let p = blocked _ c.args.at _ _ _ no_record c.requires.part.within c.requires.part.sound c.requires.kind refl refl refl in
+    let p = block-parts c.requires.part c.requires.kind refl refl refl in
     record {
-      within = omega (arith, p.within);
-      sound = p.locals;
+      parts = record { within = omega (arith, p.within); leaves = p.locals };
       names = omega (arith, p.within, c.requires.room.names);
       room = omega (arith, p.whole, c.requires.room.code);
     }
 
 pub block-statements-next-requires : goal.block-statements-next-requires
 block-statements-next-requires t c =
-    let p = blocked _ c.args.at _ _ _ no_record c.requires.part.within c.requires.part.sound c.requires.kind refl c.statement_count.ensures refl in (
+    let p = block-parts c.requires.part c.requires.kind refl c.statement_count.ensures refl in (
       omega (arith, p.within, ap length (same_table _ _ c.enter.ensures.loans)),
       several-ready c.enter.ensures.loans c.requires.room (omega arith) p.within p.others (omega (arith, p.whole)),
     )
@@ -212,7 +213,7 @@ pub block-returns : goal.block-returns
 block-returns t c =
     let a : Emitter = c.args.self.now in
     let k : ℕ = locals a c.args.at in
-    let ds : List VariableDeclaration = variables_at a.context.table.now (c.args.at + 1) k in
+    let ds : List VariableDeclaration = variables_at a.context.table.records.now (c.args.at + 1) k in
     let h = inside c.requires.part c.requires.kind c.statement_count.ensures c.enter.ensures.loans c.statements-next.ensures.bound
     c.statements-next.ensures.keeps in
     let e : Emitter = c.append.new.self in
@@ -222,11 +223,11 @@ block-returns t c =
     let n = rw (same_table _ _ c.enter.ensures.loans) at c.statements-next.ensures.next in
     record {
       items = rw h.shape.is
-          (block-code (reverse a.context.globals.now) a.context.functions.now c.args.leave (reverse (contents a.scope.now)) c.args.at ds
-          (statements_at a.context.table.now (c.args.at + 1 + k) c.statement_count.result) (vec_items a.code.now) _ _ _ _
+          (block-code (reverse a.context.globals.now) a.context.functions.now a.leave (reverse (contents a.scope.now)) c.args.at ds
+          (statements_at a.context.table.records.now (c.args.at + 1 + k) c.statement_count.result) (vec_items a.code.now) _ _ _ _
           (vec_len a.code.now) (vec_len c.enter.new.self.code.now) k c.enter.ensures.len h.shape.many c.enter.ensures.items
           (put_as _ c.statements-next.ensures.items
-          (statements-under a c.enter.new.self c.enter.ensures.loans c.args.leave (c.args.at + 1 + k) c.statement_count.result c.args.at _
+          (statements-under a c.enter.new.self c.enter.ensures.loans c.enter.ensures.leave (c.args.at + 1 + k) c.statement_count.result c.args.at _
           (ap reverse c.enter.ensures.bound ∙ bound ds (contents a.scope.now))))
           c.append_pops.ensures.items c.append.ensures.items);
       bound = (omega (arith, h.bound.0), omega (arith, h.shape.whole, h.bound.1));
@@ -238,7 +239,8 @@ block-returns t c =
           scope_capacity = ap length c.cut.ensures.words ∙ loans.scope_capacity;
           code_capacity = loans.code_capacity;
         };
-        names = dropped (contents a.scope.now) (map name_of (variables_at a.context.table.now (c.args.at + 1) (locals a c.args.at)))
+        leave = inner.leave ∙ c.enter.ensures.leave;
+        names = dropped (contents a.scope.now) (map name_of (variables_at a.context.table.records.now (c.args.at + 1) (locals a c.args.at)))
             _ _ _ _ (length-contents a.scope.now (omega (arith, c.requires.room.names, c.requires.part.within)) ∙ sym mark)
             c.enter.ensures.bound inner.names
             (contents-cut e.scope.now c.cut.new.self c.height-mark.result (omega (arith, inner.height, mark)) c.cut.ensures.words
@@ -271,7 +273,9 @@ statement-returns-in-Return t c =
     let a : Emitter = c.args.self.now in
     let p = return-at _ c.args.at c.requires.part.within c.requires.part.sound (sym c.in-Return.ensures) in
     record {
-      items = rw p.1 (joined (vec_items a.code.now) (expression_here a (c.args.at + 1)) _ _ _ c.expression-next.ensures.items c.append.ensures.items);
+      items = rw p.1
+          (joined (vec_items a.code.now) (expression_here a (c.args.at + 1)) _ _ _ c.expression-next.ensures.items
+          (put_as _ c.append.ensures.items (ap (λ (o : Operation). op c.args.at o ∷ []) c.expression-next.ensures.keeps.leave)));
       bound = (omega arith, omega (arith, p.0.whole));
       keeps = kept c.expression-next.ensures.keeps c.append.ensures.keeps;
       next = omega (arith, p.0.whole);
@@ -294,7 +298,7 @@ pub statements-statement-next-requires : goal.statements-statement-next-requires
 statements-statement-next-requires t c =
     let a : Emitter = c.args.self.now in
     let left = c.loop.invariant in
-    let p = firsts a.context.table.now c.loop.next (c.args.count - c.loop.counter) _ _ (omega arith) left.left.sound refl in (
+    let p = firsts a.context.table.records.now c.loop.next (c.args.count - c.loop.counter) _ _ (omega arith) left.left.sound refl in (
       omega (arith, p.within, left.further, ap length (same_table _ _ left.keeps.loans)),
       ready left.keeps.loans c.requires.room (omega (arith, left.further, left.keeps.height)) p.within p.first
           (omega (arith, p.whole, left.bound)),
@@ -309,15 +313,15 @@ statements-loop-preserved t c =
     let done = c.statement-next.ensures in
     let same = same_table a e left.keeps.loans in
     let n = rw same at done.next in
-    let p = firsts a.context.table.now c.loop.next (c.args.count - c.loop.counter) _ _ (omega arith) left.left.sound n in
+    let p = firsts a.context.table.records.now c.loop.next (c.args.count - c.loop.counter) _ _ (omega arith) left.left.sound n in
     let b = rw same at done.bound in
     rw (← j) record {
       left = record { within = omega (arith, p.ends); sound = p.others };
-      items = then-code (reverse a.context.globals.now) a.context.functions.now c.args.leave (reverse (contents a.scope.now)) c.args.place
-          (statement_at a.context.table.now c.loop.next)
-          (statements_at a.context.table.now c.statement-next.result (c.args.count - c.loop.counter - 1))
+      items = then-code (reverse a.context.globals.now) a.context.functions.now a.leave (reverse (contents a.scope.now)) c.args.place
+          (statement_at a.context.table.records.now c.loop.next)
+          (statements_at a.context.table.records.now c.statement-next.result (c.args.count - c.loop.counter - 1))
           (vec_items e.code.now) _ _ (vec_len e.code.now) _ (long e.code.now) (long c.append.new.self.code.now)
-          (put_as _ done.items (statement-kept a e left.keeps c.args.leave c.loop.next)) c.append.ensures.items
+          (put_as _ done.items (statement-kept a e left.keeps c.loop.next)) c.append.ensures.items
           ∙ rw p.parts at left.items;
       longer = omega (arith, left.longer);
       bound = omega (arith, p.whole, left.bound);

@@ -2,7 +2,8 @@ use Rattle.std.proofs.Common.{◌<◌, map, ap, ◌∙◌, arith, rules}
 use Rattle.stack.specs.Store.{capacity}
 use Rattle.stack.proofs.Contents.{height-pushed, contents-pushed, capacity-pushed}
 use Rattle.syntax.specs.Syntax.{name_of}
-use Rattle.translator.proofs.Declared.{next-local, moved}
+use Rattle.names.proofs.Locals.{next-local}
+use Rattle.translator.proofs.Declared.{moved}
 use Rattle.translator.proofs.emitter.Emitter.bind.Goals as goal
 
 pub loop-node-preserved : goal.loop-node-preserved
@@ -20,6 +21,7 @@ loop-node-preserved c =
           (contents-pushed before after _ room words height);
       height = omega (arith, height-pushed before after _ room words height);
       code = search rules;
+      leave = c.loop-node.invariant.leave;
       loans = record {
         context = loans.context;
         scope = loans.scope;

@@ -16,19 +16,18 @@ use Rattle.translator.proofs.emitter.Emitter.declarations.Goals.{in-Function, in
 pub bounds-self-at : goal.bounds-self-at
 bounds-self-at c =
     let k : 0 < c.args.count - c.loop.counter = omega arith in
-    (firsts c.loop.self.context.table.now c.loop.at (c.args.count - c.loop.counter) _ _ k c.loop.invariant.left.sound refl).within
+    (firsts c.loop.self.context.table.records.now c.loop.at (c.args.count - c.loop.counter) _ _ k c.loop.invariant.left.sound refl).within
 
 pub function-at-requires : goal.function-at-requires
 function-at-requires c =
     let k : 0 < c.args.count - c.loop.counter = omega arith in
-    let p = firsts c.loop.self.context.table.now c.loop.at (c.args.count - c.loop.counter) _ _ k c.loop.invariant.left.sound refl in
+    let p = firsts c.loop.self.context.table.records.now c.loop.at (c.args.count - c.loop.counter) _ _ k c.loop.invariant.left.sound refl in
     let loans = c.loop.invariant.loans in
     let same = ap length (same_table _ _ loans) in
     record {
       part = record { within = p.within; sound = p.first };
       kind = sym c.in-Function.ensures;
       room = record {
-        table = omega (arith, same, c.requires.room.table);
         names = omega (arith, same, loans.scope_capacity, c.requires.room.names);
         code = omega (arith, p.whole, loans.code_capacity, c.loop.invariant.bound, c.requires.room.code);
       };
@@ -41,11 +40,11 @@ loop-preserved c =
     elim c.match-node_kind.branch [
       | in-Function w ↦
           let called = w.function-at.ensures in
-          let p = next-function e.context.table.now c.loop.at c.args.count c.loop.counter w.function-at.result (omega arith) left.left
+          let p = next-function e.context.table.records.now c.loop.at c.args.count c.loop.counter w.function-at.result (omega arith) left.left
           (sym w.in-Function.ensures) called.next in
           let loans : SameLoans c.args.self.now w.function-at.new.self = same_loans left.loans called.loans in
           let entry : record { start = w.len.result; parameters = w.part_count.result } ∷ []
-          ≡ entry_of (vec_len e.code.now) (function_of (tree_at e.context.table.now c.loop.at)) ∷ [] =
+          ≡ entry_of (vec_len e.code.now) (function_of (tree_at e.context.table.records.now c.loop.at)) ∷ [] =
           cc (w.len.ensures, w.part_count.ensures, p.count) in
           rw (w.self-is, w.at-is, w.entries-is, w.numbers-is, called.loans.context) record {
             left = p.others;
@@ -67,9 +66,9 @@ loop-preserved c =
             numbers_capacity = left.numbers_capacity;
           }
       | in_default w ↦
-          let p = next-variable e.context.table.now c.loop.at c.args.count c.loop.counter (omega arith) left.left
+          let p = next-variable e.context.table.records.now c.loop.at c.args.count c.loop.counter (omega arith) left.left
           (λ q. w.in_default.not-Function (c.node_kind.ensures ∙ q)) in
-          let v : ℤ = (get_or e.context.table.now c.loop.at no_record).v in
+          let v : ℤ = (get_or e.context.table.records.now c.loop.at no_record).v in
           let fits : SFits w32 v = search rules in
           rw (w.self-is, w.at-is, w.entries-is, w.numbers-is) record {
             left = p.others;

@@ -12,16 +12,16 @@ use Rattle.translator.proofs.emitter.Emitter.function.Goals.{After-part_count-co
 
 -- The function's parameters and its body.
 parts : (c : After-part_count-count) →
-    Functional c.args.self.now.context.table.now c.args.at c.part_count-count.result (c.args.at + 1 + c.part_count-count.result)
-    (get_or c.args.self.now.context.table.now c.args.at no_record)
+    Functional c.args.self.now.context.table.records.now c.args.at c.part_count-count.result (c.args.at + 1 + c.part_count-count.result)
+    (get_or c.args.self.now.context.table.records.now c.args.at no_record)
 parts c =
     functional _ c.args.at _ _ no_record c.requires.part.within c.requires.part.sound c.requires.kind c.part_count-count.ensures refl
 
 -- After the body there is room for three instructions more.
 pub record Ended (a e : Emitter) (at end : ℕ) : Type 0 where
-  pub short : vec_len e.code.now + 3 ≤ vec_len a.code.now + 4 * size (tree_at a.context.table.now at)
+  pub short : vec_len e.code.now + 3 ≤ vec_len a.code.now + 4 * size (tree_at a.context.table.records.now at)
   pub capacity : vec_capacity e.code.now ≡ vec_capacity a.code.now
-  pub next : end ≡ at + size (tree_at a.context.table.now at)
+  pub next : end ≡ at + size (tree_at a.context.table.records.now at)
 
 ended : (c : After-statement-next) → Ended c.args.self.now c.statement-next.new.self c.args.at c.statement-next.result
 ended c =
@@ -41,15 +41,14 @@ pub bind-requires : goal.bind-requires
 bind-requires c =
     let p = parts (goal.at.bind-requires c).After-part_count-count in
     record {
-      within = omega (arith, p.within);
-      sound = p.parameters;
+      parts = record { within = omega (arith, p.within); leaves = p.parameters };
       names = omega (arith, p.within, c.requires.room.names, ap length c.cut.ensures.words);
     }
 
 pub overflow_add-at-3 : goal.overflow_add-at-3
 overflow_add-at-3 c =
     let h = (parts (goal.at.overflow_add-at-3 c).After-part_count-count).within in
-    let s = c.requires.room.table in
+    let s = c.args.self.now.context.table.few in
     search rules
 
 pub statement-next-requires : goal.statement-next-requires
@@ -57,12 +56,11 @@ statement-next-requires c =
     let p = parts (goal.at.statement-next-requires c).After-part_count-count in
     let same = same_table _ c.bind.new.self c.bind.ensures.loans in
     let long = ap length same in
-    rw same record {
-      part = record { within = p.within; sound = p.body };
+    record {
+      part = rw same record { within = p.within; sound = p.body };
       room = record {
-        table = omega (arith, long, c.requires.room.table);
         names = omega (arith, long, c.requires.room.names, c.bind.ensures.loans.scope_capacity, ap length c.cut.ensures.words);
-        code = omega (arith, p.whole, c.requires.room.code, c.bind.ensures.loans.code_capacity, ap vec_len c.bind.ensures.code);
+        code = rw same (omega (arith, p.whole, c.requires.room.code, c.bind.ensures.loans.code_capacity, ap vec_len c.bind.ensures.code));
       };
     }
 
@@ -85,12 +83,12 @@ pub returns-clause-items : goal.returns-clause-items
 returns-clause-items c =
     let a : Emitter = c.args.self.now in
     let n : ℕ = c.part_count-count.result in
-    let body = rw (c.bind.ensures.loans.context, c.bind.ensures.code) at c.statement-next.ensures.items in
+    let body = rw (c.bind.ensures.loans.context, c.bind.ensures.code, c.bind.ensures.leave) at c.statement-next.ensures.items in
     let empty : contents c.cut.new.self ≡ [] =
     ap (λ (h : ℕ). take h c.cut.new.self.words.now) c.cut.ensures.height in
-    let names : List ℕ = map name_of (variables_at a.context.table.now (c.args.at + 1) n) in
-    function-code (reverse a.context.globals.now) a.context.functions.now (function_of (tree_at a.context.table.now c.args.at))
-    (function_at a.context.table.now c.args.at n (c.args.at + 1 + n) (get_or a.context.table.now c.args.at no_record))
+    let names : List ℕ = map name_of (variables_at a.context.table.records.now (c.args.at + 1) n) in
+    function-code (reverse a.context.globals.now) a.context.functions.now (function_of (tree_at a.context.table.records.now c.args.at))
+    (function_at a.context.table.records.now c.args.at n (c.args.at + 1 + n) (get_or a.context.table.records.now c.args.at no_record))
     (vec_items a.code.now) _ _ _ _ (reverse (contents c.bind.new.self.scope.now)) (vec_len a.code.now)
     (parts (goal.at.returns-clause-items c).After-part_count-count).is
     (ap reverse (c.bind.ensures.bound ∙ ap (λ (z : List ℕ). z ++ names) empty))

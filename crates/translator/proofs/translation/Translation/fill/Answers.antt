@@ -3,8 +3,7 @@ use Rattle.stack.specs.Store.{contents}
 use Rattle.script.specs.declared.record.Record.{Record}
 use Rattle.syntax.specs.Trees.{no_record}
 use Rattle.syntax.specs.Typed.{statement_at, declarations_at, program_of}
-use Rattle.syntax.proofs.Declarations.{programmed}
-use Rattle.syntax.proofs.Shaped.{few-declarations}
+use Rattle.names.proofs.SoundTables.{program, few-declared, declared-parts, main-part}
 use Rattle.translator.specs.declared.translation.Translation.{Translation}
 use Rattle.translator.specs.Translations.{Held, held, nothing_held}
 use Rattle.translator.proofs.Emitters.{kept, same_table}
@@ -22,25 +21,24 @@ empty-translation t h = (
 
 pub statement-requires : goal.statement-requires
 statement-requires c =
-    let p = programmed _ _ _ no_record c.requires.part.within c.requires.part.sound refl c.requires.after in
+    let p = program c.args.context.table c.args.main c.requires.after in
     let none = empty-translation c.clear.new.self c.clear.ensures in
     record {
-      part = record { within = p.within; sound = p.body };
+      part = main-part c.args.context.table c.args.main c.requires.after;
       room = record {
-        table = c.requires.small;
-        names = omega (arith, c.new-scope.ensures.height, c.requires.small, ap length c.new-scope.ensures.words);
-        code = omega (arith, p.ends, c.requires.small, c.clear.new.self.room.0, none.0);
+        names = omega (arith, c.new-scope.ensures.height, c.args.context.table.few, ap length c.new-scope.ensures.words);
+        code = omega (arith, p.ends, c.args.context.table.few, c.clear.new.self.room.0, none.0);
       };
     }
 
 pub append-requires : goal.append-requires
 append-requires c =
-    let p = programmed _ _ _ no_record c.requires.part.within c.requires.part.sound refl c.requires.after in
+    let p = program c.args.context.table c.args.main c.requires.after in
     let none = empty-translation c.clear.new.self c.clear.ensures in
     omega (
       arith,
       p.ends,
-      c.requires.small,
+      c.args.context.table.few,
       c.clear.new.self.room.0,
       none.0,
       c.statement.ensures.keeps.loans.code_capacity,
@@ -48,34 +46,34 @@ append-requires c =
 
 pub declarations-requires : goal.declarations-requires
 declarations-requires c =
-    let p = programmed _ _ _ no_record c.requires.part.within c.requires.part.sound refl c.requires.after in
+    let p = program c.args.context.table c.args.main c.requires.after in
     let none = empty-translation c.clear.new.self c.clear.ensures in
-    let few = few-declarations _ no_record c.requires.part.within c.requires.part.sound in
+    let few = few-declared c.args.context.table in
     let k = kept c.statement.ensures.keeps c.append.ensures.keeps in
     let same = same_table _ c.append.new.self k.loans in
-    rw same record {
-      parts = record { within = omega arith; sound = p.declared };
+    record {
+      parts = rw same (declared-parts c.args.context.table);
       room = record {
-        table = omega (arith, c.requires.small, ap length same);
-        names = omega (arith, c.requires.small, ap length same, k.loans.scope_capacity, ap length c.new-scope.ensures.words);
-        code = omega (
-          arith,
-          p.ends,
-          c.requires.after,
-          c.requires.small,
-          c.clear.new.self.room.0,
-          none.0,
-          k.loans.code_capacity,
-        );
+        names = omega (arith, c.args.context.table.few, ap length same, k.loans.scope_capacity, ap length c.new-scope.ensures.words);
+        code = rw same
+            (omega (
+              arith,
+              p.ends,
+              c.requires.after,
+              c.args.context.table.few,
+              c.clear.new.self.room.0,
+              none.0,
+              k.loans.code_capacity,
+            ));
       };
       free = (omega (arith, few, c.clear.new.self.room.1, none.1), omega (arith, few, c.clear.new.self.room.2, none.2));
     }
 
 pub returns-clause-made : goal.returns-clause-made
 returns-clause-made c =
-    let table : List Record = c.args.context.table.now in
+    let table : List Record = c.args.context.table.records.now in
     let k : ℕ = (get_or table 0 no_record).a in
-    let p = programmed table k c.args.main no_record c.requires.part.within c.requires.part.sound refl c.requires.after in
+    let p = program c.args.context.table c.args.main c.requires.after in
     let none = c.clear.ensures in
     let loans = (kept c.statement.ensures.keeps c.append.ensures.keeps).loans in
     let empty : contents c.new-scope.result ≡ [] =
@@ -91,7 +89,7 @@ returns-clause-made c =
 
 pub returns-clause-short : goal.returns-clause-short
 returns-clause-short c =
-    let p = programmed _ _ _ no_record c.requires.part.within c.requires.part.sound refl c.requires.after in
+    let p = program c.args.context.table c.args.main c.requires.after in
     let same = same_table _ c.append.new.self (kept c.statement.ensures.keeps c.append.ensures.keeps).loans in
     let b = rw same at c.declarations.ensures.bound in
     omega (

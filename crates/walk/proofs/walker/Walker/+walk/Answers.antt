@@ -1,22 +1,23 @@
-use Rattle.std.proofs.Common.{◌≡◌, suc, ◌+◌, ◌-◌, ◌<◌, true, false, ◌∷◌, reverse, length, get_or, take, set, ℤ, pos, sym, refl, ap, ◌∙◌, add-one, arith, w32, SFits, to_z, of_z, rules}
+use Rattle.std.proofs.Common.{◌≡◌, suc, ◌+◌, ◌-◌, true, false, ◌∷◌, reverse, length, get_or, take, set, ℤ, pos, sym, refl, ap, ◌∙◌, add-one, arith, w32, SFits, to_z, of_z, rules}
 use Rattle.std.proofs.lemmas.Int.{to_z-of_z}
 use Rattle.std.proofs.lemmas.List.{length-take-le}
 use Rattle.kinds.specs.Counter.{counter}
 use Rattle.script.specs.declared.rows.NodeKind.TheVariants as is
-use Rattle.syntax.specs.Trees.{tree_at, no_record}
-use Rattle.syntax.specs.Typed.{statements_at, function_of, node_at}
+use Rattle.syntax.specs.Trees.{no_record}
+use Rattle.syntax.specs.Typed.{node_at}
 use Rattle.syntax.proofs.Shapes.{simple-kind}
-use Rattle.treerun.specs.TreeRun.{State, value, leave_block, leave_call}
-use Rattle.treerun.specs.Laws.{statement_run, statements_run}
+use Rattle.treerun.specs.TreeRun.{value}
+use Rattle.treerun.specs.Laws.{statement_run}
 use Rattle.treerun.proofs.ByRules.{by-rules}
 use Rattle.walk.specs.declared.state.Stop.TheVariants.{Returned, Ended}
-use Rattle.walk.specs.Lent.{Lent, lent_in, state}
+use Rattle.walk.specs.Lent.{lent_in, state}
 use Rattle.walk.specs.Parts.{setting_in}
 use Rattle.walk.proofs.Bindings.{eqb-true, eqb-ne, rev-set}
+use Rattle.walk.proofs.Calls.{calling, call-enters, one-deeper, all-given, body-ready, without-return, with-return, run-ended}
 use Rattle.walk.proofs.Rans.{refuses, passes, follows, gives, recast}
 use Rattle.walk.proofs.Readies.{assign-ready, bay-read-ready, two_part_ready, bay_write_ready, call-ready, evaluate-ready, return-ready, while-ready, if-ready}
-use Rattle.walk.proofs.Readies.{first-argument, first-statement, block-ready, same-room, not-all, deeper, enters}
-use Rattle.walk.proofs.Runs.{goes_on, stops, no_fuel, block-stops, too_deep, without-fuel, no-function, call-runs, reads, writes}
+use Rattle.walk.proofs.Readies.{first-argument, first-statement, block-ready, same-room}
+use Rattle.walk.proofs.Runs.{goes_on, stops, no_fuel, block-runs, block-stops, too_deep, without-fuel, no-function, reads, writes}
 use Rattle.walk.proofs.Runs.{test-stops, test_zero, body-stops, begins-over}
 use Rattle.walk.proofs.States.{dropped}
 use Rattle.walk.proofs.Views.{no-parts, no_other}
@@ -64,11 +65,11 @@ expression-expression-requires-in-Assignment t c =
     let p = assign-ready c.requires (sym c.in-Assignment.ensures) in
     (omega (arith, p.part.part.within), p.part)
 
-pub expression-returns-in_err-x-in-Assignment-clause-ran : goal.expression-returns-in_err-x-in-Assignment-clause-ran
-expression-returns-in_err-x-in-Assignment-clause-ran t c =
+pub expression-returns-in_err-value-in-Assignment-clause-ran : goal.expression-returns-in_err-value-in-Assignment-clause-ran
+expression-returns-in_err-value-in-Assignment-clause-ran t c =
     let p = assign-ready c.requires (sym c.in-Assignment.ensures) in
-    let k = c.in_err-x-in-Assignment.ensures.ran in
-    passes c.from_residual-in_err-x-in-Assignment.ensures.1
+    let k = c.in_err-value-in-Assignment.ensures.ran in
+    passes c.from_residual-in_err-value-in-Assignment.ensures.1
     (omega arith) (omega arith) k
     (rw p.is ((by-rules (setting_in c.args.self.now)).of_assign _ _ _ _ _
     ∙ stops _ _ _ k.runs))
@@ -78,11 +79,11 @@ expression-expression-requires-in-BayRead t c =
     let p = bay-read-ready c.requires (sym c.in-BayRead.ensures) in
     (omega (arith, p.part.part.within), p.part)
 
-pub expression-returns-in_err-x-in-BayRead-clause-ran : goal.expression-returns-in_err-x-in-BayRead-clause-ran
-expression-returns-in_err-x-in-BayRead-clause-ran t c =
+pub expression-returns-in_err-slot-in-BayRead-clause-ran : goal.expression-returns-in_err-slot-in-BayRead-clause-ran
+expression-returns-in_err-slot-in-BayRead-clause-ran t c =
     let p = bay-read-ready c.requires (sym c.in-BayRead.ensures) in
-    let k = c.in_err-x-in-BayRead.ensures.ran in
-    passes c.from_residual-in_err-x-in-BayRead.ensures.1
+    let k = c.in_err-slot-in-BayRead.ensures.ran in
+    passes c.from_residual-in_err-slot-in-BayRead.ensures.1
     (omega arith) (omega arith) k
     (rw p.is ((by-rules (setting_in c.args.self.now)).of_bay_read _ _ _ _
     ∙ stops _ _ _ k.runs))
@@ -90,11 +91,10 @@ expression-returns-in_err-x-in-BayRead-clause-ran t c =
 pub expression-returns-in_err-word-in-BayRead-clause-ran : goal.expression-returns-in_err-word-in-BayRead-clause-ran
 expression-returns-in_err-word-in-BayRead-clause-ran t c =
     let p = bay-read-ready c.requires (sym c.in-BayRead.ensures) in
-    let k = c.in_ok-x-in-BayRead.ensures.ran in
-    let f : SFits w32 c.in_ok-x-in-BayRead.x.word = search rules in
+    let k = c.in_ok-slot-in-BayRead.ensures.ran in
+    let f : SFits w32 c.in_ok-slot-in-BayRead.slot.word = search rules in
     let b = simp to_z-of_z at c.in_err-word-in-BayRead.ensures in
     refuses _ c.from_residual-in_err-word-in-BayRead.ensures.1 k.fuel (omega (arith, k.kept))
-    (omega (arith, k.kept, c.requires.room.names)) (omega (arith, k.kept, c.requires.room.words))
     (rw p.is ((by-rules (setting_in c.args.self.now)).of_bay_read _ _ _ _
     ∙ (goes_on _ _ _ k.runs ∙ reads c.args.at _
     (lent_in c.expression-in-BayRead.new.self) _ b)))
@@ -104,11 +104,11 @@ expression-expression-requires-in-BayWrite t c =
     let p = bay_write_ready c.requires _ refl (sym c.in-BayWrite.ensures) in
     (omega (arith, p.first.part.within), p.first)
 
-pub expression-returns-in_err-x-in-BayWrite-clause-ran : goal.expression-returns-in_err-x-in-BayWrite-clause-ran
-expression-returns-in_err-x-in-BayWrite-clause-ran t c =
+pub expression-returns-in_err-slot-in-BayWrite-clause-ran : goal.expression-returns-in_err-slot-in-BayWrite-clause-ran
+expression-returns-in_err-slot-in-BayWrite-clause-ran t c =
     let p = bay_write_ready c.requires _ refl (sym c.in-BayWrite.ensures) in
-    let k = c.in_err-x-in-BayWrite.ensures.ran in
-    passes c.from_residual-in_err-x-in-BayWrite.ensures.1
+    let k = c.in_err-slot-in-BayWrite.ensures.ran in
+    passes c.from_residual-in_err-slot-in-BayWrite.ensures.1
     (omega arith) (omega arith) k
     (rw p.is ((by-rules (setting_in c.args.self.now)).of_bay_write _ _ _ _ _
     ∙ stops _ _ _ k.runs))
@@ -116,21 +116,21 @@ expression-returns-in_err-x-in-BayWrite-clause-ran t c =
 pub expression-expression-requires-in-BayWrite-2 : goal.expression-expression-requires-in-BayWrite-2
 expression-expression-requires-in-BayWrite-2 t c =
     let s = c.expression-in-BayWrite.ensures.same in
-    let k = c.in_ok-x-in-BayWrite.ensures.ran in
-    let p = bay_write_ready c.requires c.in_ok-x-in-BayWrite.x.next k.ends
+    let k = c.in_ok-slot-in-BayWrite.ensures.ran in
+    let p = bay_write_ready c.requires c.in_ok-slot-in-BayWrite.slot.next k.ends
     (sym c.in-BayWrite.ensures) in
     let r = p.second (lent_in c.expression-in-BayWrite.new.self)
     (same-room s k.kept) in
     rw (s.table, s.depth) (omega (arith, r.part.within, k.ends), r)
 
-pub expression-returns-in_err-y-in-BayWrite-clause-ran : goal.expression-returns-in_err-y-in-BayWrite-clause-ran
-expression-returns-in_err-y-in-BayWrite-clause-ran t c =
+pub expression-returns-in_err-value-in-BayWrite-clause-ran : goal.expression-returns-in_err-value-in-BayWrite-clause-ran
+expression-returns-in_err-value-in-BayWrite-clause-ran t c =
     let s = c.expression-in-BayWrite.ensures.same in
-    let k = c.in_ok-x-in-BayWrite.ensures.ran in
-    let j = rw (s.table, s.depth) at c.in_err-y-in-BayWrite.ensures.ran in
-    let p = bay_write_ready c.requires c.in_ok-x-in-BayWrite.x.next k.ends
+    let k = c.in_ok-slot-in-BayWrite.ensures.ran in
+    let j = rw (s.table, s.depth) at c.in_err-value-in-BayWrite.ensures.ran in
+    let p = bay_write_ready c.requires c.in_ok-slot-in-BayWrite.slot.next k.ends
     (sym c.in-BayWrite.ensures) in
-    passes c.from_residual-in_err-y-in-BayWrite.ensures.1
+    passes c.from_residual-in_err-value-in-BayWrite.ensures.1
     (omega (arith, k.kept)) k.fuel j
     (rw p.is ((by-rules (setting_in c.args.self.now)).of_bay_write _ _ _ _ _
     ∙ (goes_on _ _ _ k.runs ∙ stops _ _ _ j.runs)))
@@ -138,17 +138,16 @@ expression-returns-in_err-y-in-BayWrite-clause-ran t c =
 pub expression-returns-in_err-word-in-BayWrite-clause-ran : goal.expression-returns-in_err-word-in-BayWrite-clause-ran
 expression-returns-in_err-word-in-BayWrite-clause-ran t c =
     let s = c.expression-in-BayWrite.ensures.same in
-    let k = c.in_ok-x-in-BayWrite.ensures.ran in
-    let j = rw (s.table, s.depth) at c.in_ok-y-in-BayWrite.ensures.ran in
-    let p = bay_write_ready c.requires c.in_ok-x-in-BayWrite.x.next k.ends
+    let k = c.in_ok-slot-in-BayWrite.ensures.ran in
+    let j = rw (s.table, s.depth) at c.in_ok-value-in-BayWrite.ensures.ran in
+    let p = bay_write_ready c.requires c.in_ok-slot-in-BayWrite.slot.next k.ends
     (sym c.in-BayWrite.ensures) in
-    let f : SFits w32 c.in_ok-x-in-BayWrite.x.word = search rules in
-    let g : SFits w32 c.in_ok-y-in-BayWrite.y.word = search rules in
+    let f : SFits w32 c.in_ok-slot-in-BayWrite.slot.word = search rules in
+    let g : SFits w32 c.in_ok-value-in-BayWrite.value.word = search rules in
     let b = simp to_z-of_z at c.in_err-word-in-BayWrite.ensures.answer in
     let d = simp to_z-of_z at c.in_err-word-in-BayWrite.ensures.bays in
     refuses _ c.from_residual-in_err-word-in-BayWrite.ensures.1 (omega (arith, k.fuel, j.fuel))
     (omega (arith, k.kept, j.kept))
-    (omega (arith, k.kept, j.kept, c.requires.room.names)) (omega (arith, k.kept, j.kept, c.requires.room.words))
     (rw p.is ((by-rules (setting_in c.args.self.now)).of_bay_write _ _ _ _ _
     ∙ (goes_on _ _ _ k.runs ∙ (goes_on _ _ _ j.runs
     ∙ writes c.args.at _ (lent_in c.expression-in-BayWrite-2.new.self) _ _ b d))))
@@ -185,15 +184,15 @@ expression-returns-in_ok-y-in-TwoPart-clause-ran t c =
     ∙ (goes_on _ _ _ k.runs ∙ goes_on _ _ _ j.runs)))
     (omega (arith, k.fuel, j.fuel)) (j.kept ∙ k.kept) (j.ends ∙ p.ends)
 
-pub expression-returns-in_ok-x-in-Assignment-clause-ran : goal.expression-returns-in_ok-x-in-Assignment-clause-ran
-expression-returns-in_ok-x-in-Assignment-clause-ran t c =
+pub expression-returns-in_ok-value-in-Assignment-clause-ran : goal.expression-returns-in_ok-value-in-Assignment-clause-ran
+expression-returns-in_ok-value-in-Assignment-clause-ran t c =
     let p = assign-ready c.requires (sym c.in-Assignment.ensures) in
-    let k = c.in_ok-x-in-Assignment.ensures.ran in
-    let f : SFits w32 c.in_ok-x-in-Assignment.x.word = search rules in
-    let b = rw (to_z-of_z w32 c.in_ok-x-in-Assignment.x.word f) at c.assign.ensures.bindings in
+    let k = c.in_ok-value-in-Assignment.ensures.ran in
+    let f : SFits w32 c.in_ok-value-in-Assignment.value.word = search rules in
+    let b = rw (to_z-of_z w32 c.in_ok-value-in-Assignment.value.word f) at c.assign.ensures.bindings in
     record {
       runs = rw p.is ((by-rules (setting_in c.args.self.now)).of_assign _ _ _ _ _
-          ∙ (goes_on _ _ _ k.runs ∙ ap (value c.in_ok-x-in-Assignment.x.word) (sym b)));
+          ∙ (goes_on _ _ _ k.runs ∙ ap (value c.in_ok-value-in-Assignment.value.word) (sym b)));
       fuel = omega (arith, k.fuel, c.assign.ensures.progress.fuel);
       kept = omega (arith, k.kept, c.assign.ensures.progress.count);
       ends = k.ends ∙ p.ends;
@@ -202,8 +201,8 @@ expression-returns-in_ok-x-in-Assignment-clause-ran t c =
 pub expression-returns-in_ok-word-in-BayRead-clause-ran : goal.expression-returns-in_ok-word-in-BayRead-clause-ran
 expression-returns-in_ok-word-in-BayRead-clause-ran t c =
     let p = bay-read-ready c.requires (sym c.in-BayRead.ensures) in
-    let k = c.in_ok-x-in-BayRead.ensures.ran in
-    let f : SFits w32 c.in_ok-x-in-BayRead.x.word = search rules in
+    let k = c.in_ok-slot-in-BayRead.ensures.ran in
+    let f : SFits w32 c.in_ok-slot-in-BayRead.slot.word = search rules in
     let g : SFits w32 c.in_ok-word-in-BayRead.word = search rules in
     let b = simp to_z-of_z at c.in_ok-word-in-BayRead.ensures in
     gives _ (to_z-of_z w32 c.in_ok-word-in-BayRead.word g)
@@ -215,12 +214,12 @@ expression-returns-in_ok-word-in-BayRead-clause-ran t c =
 pub expression-returns-in_ok-word-in-BayWrite-clause-ran : goal.expression-returns-in_ok-word-in-BayWrite-clause-ran
 expression-returns-in_ok-word-in-BayWrite-clause-ran t c =
     let s = c.expression-in-BayWrite.ensures.same in
-    let k = c.in_ok-x-in-BayWrite.ensures.ran in
-    let j = rw (s.table, s.depth) at c.in_ok-y-in-BayWrite.ensures.ran in
-    let p = bay_write_ready c.requires c.in_ok-x-in-BayWrite.x.next k.ends
+    let k = c.in_ok-slot-in-BayWrite.ensures.ran in
+    let j = rw (s.table, s.depth) at c.in_ok-value-in-BayWrite.ensures.ran in
+    let p = bay_write_ready c.requires c.in_ok-slot-in-BayWrite.slot.next k.ends
     (sym c.in-BayWrite.ensures) in
-    let f : SFits w32 c.in_ok-x-in-BayWrite.x.word = search rules in
-    let g : SFits w32 c.in_ok-y-in-BayWrite.y.word = search rules in
+    let f : SFits w32 c.in_ok-slot-in-BayWrite.slot.word = search rules in
+    let g : SFits w32 c.in_ok-value-in-BayWrite.value.word = search rules in
     let h : SFits w32 c.in_ok-word-in-BayWrite.word = search rules in
     let b = simp to_z-of_z at c.in_ok-word-in-BayWrite.ensures.answer in
     let d = simp to_z-of_z at c.in_ok-word-in-BayWrite.ensures.bays in
@@ -338,10 +337,10 @@ statement-expression-requires-in-Return t c =
     let p = return-ready c.requires (sym c.in-Return.ensures) in
     (omega (arith, p.part.part.within), p.part)
 
-pub statement-returns-in_err-x-in-Return-clause-ran : goal.statement-returns-in_err-x-in-Return-clause-ran
-statement-returns-in_err-x-in-Return-clause-ran t c =
+pub statement-returns-in_err-value-in-Return-clause-ran : goal.statement-returns-in_err-value-in-Return-clause-ran
+statement-returns-in_err-value-in-Return-clause-ran t c =
     let p = return-ready c.requires (sym c.in-Return.ensures) in
-    let k = c.in_err-x-in-Return.ensures.ran in
+    let k = c.in_err-value-in-Return.ensures.ran in
     passes c.from_residual.ensures.1 (omega arith)
     (omega arith) k
     (rw p.is ((by-rules (setting_in c.args.self.now)).of_give_back _ _ _ _
@@ -416,21 +415,17 @@ statement-returns-in-ExpressionStatement-clause-ran t c =
     follows _ refl (omega arith) p.ends c.expression.ensures.ran
     (rw p.is ((by-rules (setting_in c.args.self.now)).of_evaluate _ _ _ _))
 
-pub statement-returns-in_ok-x-in-Return-clause-ran : goal.statement-returns-in_ok-x-in-Return-clause-ran
-statement-returns-in_ok-x-in-Return-clause-ran t c =
+pub statement-returns-in_ok-value-in-Return-clause-ran : goal.statement-returns-in_ok-value-in-Return-clause-ran
+statement-returns-in_ok-value-in-Return-clause-ran t c =
     let p = return-ready c.requires (sym c.in-Return.ensures) in
-    let k = c.in_ok-x-in-Return.ensures.ran in
-    let f : SFits w32 c.in_ok-x-in-Return.x.word = search rules in
-    rw (to_z-of_z w32 c.in_ok-x-in-Return.x.word f)
+    let k = c.in_ok-value-in-Return.ensures.ran in
+    let f : SFits w32 c.in_ok-value-in-Return.value.word = search rules in
+    rw (to_z-of_z w32 c.in_ok-value-in-Return.value.word f)
     record {
       runs = rw p.is ((by-rules (setting_in c.args.self.now)).of_give_back _ _ _ _
           ∙ goes_on _ _ _ k.runs);
       fuel = k.fuel;
-      kept = (
-        omega (arith, k.kept),
-        omega (arith, k.kept, c.requires.room.names),
-        omega (arith, k.kept, c.requires.room.words),
-      );
+      kept = omega (arith, k.kept);
       ends = tt;
     }
 
@@ -577,17 +572,12 @@ repeat-returns-clause-ran t c =
     let i = c.loop-self.invariant in
     let s = i.same in
     let p = while-ready c.requires.ready _ refl c.requires.kind in
-    let r = c.requires.ready.room in
     rw c.end_at.ensures record {
       runs = i.runs ∙ rw p.is
           ((by-rules (setting_in c.args.self.now)).of_while _ _ _ _ _
           ∙ no_fuel _ (state (lent_in c.loop-self.self)) _ (omega arith));
       fuel = i.fuel;
-      kept = (
-        omega (arith, i.bound),
-        omega (arith, i.bound, r.names),
-        omega (arith, i.bound, r.words),
-      );
+      kept = omega (arith, i.bound);
       ends = tt;
     }
 
@@ -611,15 +601,10 @@ block-returns-in_err-next-clause-ran t c =
     let p = block-ready c.requires.ready _ c.statement_count-count.result c.requires.kind refl
     c.statement_count-count.ensures in
     let k = rw (s.table, s.depth) at c.in_err-next.ensures.ran in
-    let b = ap (λ (σ : State ℤ). statements_run (setting_in c.args.self.now)
-    (statements_at c.args.self.now.table.now (c.args.at + 1 + (get_or c.args.self.now.table.now c.args.at no_record).a)
-    c.statement_count-count.result) c.args.opened σ)
-    (sym c.declare.ensures.bound) in
     passes c.from_residual.ensures.1
     (omega (arith, c.declare.ensures.progress.count)) (omega (arith, c.declare.ensures.progress.fuel)) k
-    (rw p.is ((by-rules (setting_in c.args.self.now)).of_block _ _ _ _ _
-    ∙ (ap (leave_block (pos 0) (state (lent_in c.args.self.now))) (b ∙ k.runs)
-    ∙ block-stops (pos 0) (state (lent_in c.args.self.now)) _ _)))
+    (rw p.is (block-runs _ _ _ _ _ _ _ _ c.declare.ensures.bound k.runs
+    ∙ block-stops (pos 0) (state (lent_in c.args.self.now)) _ _))
 
 pub block-returns-clause-ran : goal.block-returns-clause-ran
 block-returns-clause-ran t c =
@@ -628,18 +613,12 @@ block-returns-clause-ran t c =
     c.statement_count-count.ensures in
     let k = rw (s.table, s.depth) at c.in_ok-next.ensures.ran in
     let e = c.declare.ensures.progress.count in
-    let b = ap (λ (σ : State ℤ). statements_run (setting_in c.args.self.now)
-    (statements_at c.args.self.now.table.now (c.args.at + 1 + (get_or c.args.self.now.table.now c.args.at no_record).a)
-    c.statement_count-count.result) c.args.opened σ)
-    (sym c.declare.ensures.bound) in
     let x = dropped (lent_in c.args.self.now) (lent_in c.statements.new.self)
     c.args.self.now.bound refl
-    (omega (arith, k.kept)) (omega (arith, k.kept, p.names, s.names_length, c.statements.ensures.same.names_length))
-    (omega (arith, k.kept, p.words, s.words_length, c.statements.ensures.same.words_length))
+    (omega (arith, k.kept)) c.statements.new.self.names_fit c.statements.new.self.words_fit
     (omega (arith, p.names)) (omega (arith, p.words)) in
     gives _ refl
-    (rw p.is ((by-rules (setting_in c.args.self.now)).of_block _ _ _ _ _
-    ∙ (ap (leave_block (pos 0) (state (lent_in c.args.self.now))) (b ∙ k.runs) ∙ ap (value (pos 0)) x)))
+    (rw p.is (block-runs _ _ _ _ _ _ _ _ c.declare.ensures.bound k.runs ∙ ap (value (pos 0)) x))
     (omega (arith, k.fuel, c.declare.ensures.progress.fuel)) refl (k.ends ∙ p.ends)
 
 pub call-arguments-requires : goal.call-arguments-requires
@@ -684,11 +663,7 @@ call-returns-then-opened-self-clause-ran t c =
           (λ calls s σ. statement_run (setting_in c.args.self.now) s calls σ) _ _ _
           l.is _ _ (eqb-true _ _ (rw s.depth at c.if-opened-self.true))));
       fuel = k.fuel;
-      kept = (
-        omega (arith, k.kept),
-        omega (arith, k.kept, c.requires.ready.room.names, s.names_length),
-        omega (arith, k.kept, c.requires.ready.room.words, s.words_length),
-      );
+      kept = omega (arith, k.kept);
       ends = tt;
     }
 
@@ -706,11 +681,7 @@ call-returns-then-self-eq0-clause-ran t c =
           (λ calls s σ. statement_run (setting_in c.args.self.now) s calls σ) _ _ _
           l.is _ _ (eqb-ne _ _ (rw s.depth at c.if-opened-self.false)) c.if-self-eq0.true));
       fuel = k.fuel;
-      kept = (
-        omega (arith, k.kept),
-        omega (arith, k.kept, c.requires.ready.room.names, s.names_length),
-        omega (arith, k.kept, c.requires.ready.room.words, s.words_length),
-      );
+      kept = omega (arith, k.kept);
       ends = tt;
     }
 
@@ -728,116 +699,53 @@ call-slice_bounds-bind-end t c =
 
 pub call-bind-requires : goal.call-bind-requires
 call-bind-requires t c =
-    let s = c.arguments.ensures.same in
-    let p = call-ready c.requires.ready c.part_count-count.result c.requires.kind
-    c.part_count-count.ensures in
-    let k = c.in_ok-next.ensures.ran in
-    let l = rw s.table at c.in-Some.ensures in
-    let o = rw s.depth at c.if-opened-self.false in
-    let n = enters _ c.requires.ready.room p.takes l o (lent_in c.arguments.new.self) (same-room s k.kept) in
-    let g : length (take c.part_count-count.result c.arguments.new.given) ≡ c.part_count-count.result =
-    length-take-le c.part_count-count.result c.arguments.new.given (omega (arith, p.few)) in
-    rw (s.table, g) record { inside = omega (arith, n.within); plain = n.plain; names = n.names; words = n.words }
+    let l = calling c.args.self.now c.arguments.new.self c.arguments.new.given c.requires.ready c.requires.kind
+    c.part_count-count.ensures (omega arith) c.arguments.ensures.same c.in_ok-next.ensures.ran c.in-Some.ensures
+    c.if-opened-self.false in
+    let n = call-enters l in
+    rw (c.arguments.ensures.same.table, all-given l)
+    record { inside = omega (arith, n.within); plain = n.plain; names = n.names; words = n.words }
 
 pub call-overflow_add-f-3 : goal.call-overflow_add-f-3
 call-overflow_add-f-3 t c =
-    let s = c.arguments.ensures.same in
-    let p = call-ready c.requires.ready c.part_count-count.result c.requires.kind
-    c.part_count-count.ensures in
-    let k = c.in_ok-next.ensures.ran in
-    let l = rw s.table at c.in-Some.ensures in
-    let o = rw s.depth at c.if-opened-self.false in
-    let n = enters _ c.requires.ready.room p.takes l o (lent_in c.arguments.new.self) (same-room s k.kept) in
-    let i : c.in-Some.f + 1 + c.part_count-count.result < length c.args.self.now.table.now = n.within in
-    let i' = rw (← s.table) at i in
+    let l = calling c.args.self.now c.arguments.new.self c.arguments.new.given c.requires.ready c.requires.kind
+    c.part_count-count.ensures (omega arith) c.arguments.ensures.same c.in_ok-next.ensures.ran c.in-Some.ensures
+    c.if-opened-self.false in
+    let i = rw (← c.arguments.ensures.same.table) at (call-enters l).within in
     search rules
 
 pub call-statement-requires : goal.call-statement-requires
 call-statement-requires t c =
+    let l = calling c.args.self.now c.arguments.new.self c.arguments.new.given c.requires.ready c.requires.kind
+    c.part_count-count.ensures (omega arith) c.arguments.ensures.same c.in_ok-next.ensures.ran c.in-Some.ensures
+    c.if-opened-self.false in
     let s = c.arguments.ensures.same in
-    let p = call-ready c.requires.ready c.part_count-count.result c.requires.kind
-    c.part_count-count.ensures in
-    let k = c.in_ok-next.ensures.ran in
-    let l = rw s.table at c.in-Some.ensures in
-    let o = rw s.depth at c.if-opened-self.false in
-    let n = enters _ c.requires.ready.room p.takes l o (lent_in c.arguments.new.self) (same-room s k.kept) in
     let u = c.bind.ensures.same in
-    let g : length (take c.part_count-count.result c.arguments.new.given) ≡ c.part_count-count.result =
-    length-take-le c.part_count-count.result c.arguments.new.given (omega (arith, p.few)) in
-    let e = rw g at c.bind.ensures.progress.count in
-    let h = not-all c.requires.ready.room.below o in
-    let d = deeper c.args.self.now.depth c.args.opened (length c.args.self.now.table.now + 1) h in
-    let i = n.ready (lent_in c.bind.new.self) e u.names_length u.words_length in
-    rw (u.table, u.depth, s.table, s.depth) (omega (arith, n.within, d), i)
+    let d = one-deeper l (length c.args.self.now.table.now + 1) in
+    rw (u.table, u.depth, s.table, s.depth) (
+      omega (arith, (call-enters l).within, d),
+      body-ready l (omega arith) refl (search rules) c.bind.ensures.bound c.bind.ensures.progress u,
+    )
 
 pub call-returns-clause-ran : goal.call-returns-clause-ran
 call-returns-clause-ran t c =
-    let s = c.arguments.ensures.same in
-    let p = call-ready c.requires.ready c.part_count-count.result c.requires.kind
-    c.part_count-count.ensures in
-    let k = c.in_ok-next.ensures.ran in
-    let l = rw s.table at c.in-Some.ensures in
-    let o = rw s.depth at c.if-opened-self.false in
-    let n = enters _ c.requires.ready.room p.takes l o (lent_in c.arguments.new.self) (same-room s k.kept) in
-    let u = c.bind.ensures.same in
-    let g : length (take c.part_count-count.result c.arguments.new.given) ≡ c.part_count-count.result =
-    length-take-le c.part_count-count.result c.arguments.new.given (omega (arith, p.few)) in
-    let e = rw g at c.bind.ensures.progress.count in
-    let z : c.arguments.new.self.fuel ≡ suc (c.arguments.new.self.fuel - 1) = omega arith in
-    let lent₁ : Lent = record (lent_in c.arguments.new.self) { fuel = c.arguments.new.self.fuel - 1 } in
-    let υ : State ℤ = state lent₁ in
-    let v = c.statement.ensures.same in
-    let y = call-runs (setting_in c.args.self.now) c.args.at _ _ c.args.opened _ (state (lent_in c.arguments.new.self))
-    c.arguments.new.given c.part_count-count.result
-    (c.arguments.new.self.fuel - 1) (function_of (tree_at c.args.self.now.table.now c.in-Some.f)) _ _
-    (state (lent_in c.bind.new.self)) k.runs l.is (eqb-ne _ _ o) z n.body n.parameters
-    (rw (s.table, g) at c.bind.ensures.bound) in
+    let l = calling c.args.self.now c.arguments.new.self c.arguments.new.given c.requires.ready c.requires.kind
+    c.part_count-count.ensures (omega arith) c.arguments.ensures.same c.in_ok-next.ensures.ran c.in-Some.ensures
+    c.if-opened-self.false in
     elim c.match-statement.branch [
-      | call-in-Ok w ↦
-          let j = rw (u.table, u.depth, s.table, s.depth) at w.in-Ok.ensures.ran in
-          let d = dropped lent₁ (lent_in c.statement.new.self) c.arguments.new.self.bound refl
-          (omega (arith, j.kept, e)) (omega (arith, j.kept, e, n.names, v.names_length, u.names_length))
-          (omega (arith, j.kept, e, n.words, v.words_length, u.words_length))
-          (omega (arith, n.names)) (omega (arith, n.words)) in
-          gives (pos 0) w.word-is
-          (rw p.is (y ∙ (ap (leave_call (pos 0) υ) j.runs ∙ ap (value (pos 0)) d)))
-          (omega (arith, j.fuel, k.fuel, c.bind.ensures.progress.fuel)) k.kept (k.ends ∙ p.ends)
+      | call-in-Ok w ↦ without-return l (omega arith) refl (search rules) c.bind.ensures.bound c.bind.ensures.progress c.bind.ensures.same
+          c.statement.new.self w.in-Ok.ensures.ran _ w.word-is
       | call-in-Err-Returned w ↦
-          let j = rw (u.table, u.depth, s.table, s.depth) at (recast (Returned w.in-Err-Returned.word) w.in-Err-Returned.field-0-is w.in-Err-Returned.ensures.ran) in
-          let d = dropped lent₁ (lent_in c.statement.new.self) c.arguments.new.self.bound refl
-          (omega (arith, j.kept.0, e)) j.kept.1 j.kept.2 (omega (arith, n.names)) (omega (arith, n.words)) in
           let f : SFits w32 w.in-Err-Returned.word = search rules in
-          gives w.in-Err-Returned.word (w.word-is ∙ to_z-of_z w32 w.in-Err-Returned.word f)
-          (rw p.is (y ∙ (ap (leave_call (pos 0) υ) j.runs ∙ ap (value w.in-Err-Returned.word) d)))
-          (omega (arith, j.fuel, k.fuel, c.bind.ensures.progress.fuel)) k.kept (k.ends ∙ p.ends)
+          with-return l (omega arith) refl (search rules) c.bind.ensures.bound c.bind.ensures.progress c.bind.ensures.same
+          c.statement.new.self (recast (Returned w.in-Err-Returned.word) w.in-Err-Returned.field-0-is w.in-Err-Returned.ensures.ran) _
+          (w.word-is ∙ to_z-of_z w32 w.in-Err-Returned.word f)
     ]
 
 pub call-returns-in-Err-Ended-clause-ran : goal.call-returns-in-Err-Ended-clause-ran
 call-returns-in-Err-Ended-clause-ran t c =
-    let s = c.arguments.ensures.same in
-    let p = call-ready c.requires.ready c.part_count-count.result c.requires.kind
-    c.part_count-count.ensures in
-    let k = c.in_ok-next.ensures.ran in
-    let l = rw s.table at c.in-Some.ensures in
-    let o = rw s.depth at c.if-opened-self.false in
-    let n = enters _ c.requires.ready.room p.takes l o (lent_in c.arguments.new.self) (same-room s k.kept) in
-    let u = c.bind.ensures.same in
-    let g : length (take c.part_count-count.result c.arguments.new.given) ≡ c.part_count-count.result =
-    length-take-le c.part_count-count.result c.arguments.new.given (omega (arith, p.few)) in
-    let e = rw g at c.bind.ensures.progress.count in
-    let z : c.arguments.new.self.fuel ≡ suc (c.arguments.new.self.fuel - 1) = omega arith in
-    let lent₁ : Lent = record (lent_in c.arguments.new.self) { fuel = c.arguments.new.self.fuel - 1 } in
-    let υ : State ℤ = state lent₁ in
-    let v = c.statement.ensures.same in
-    let y = call-runs (setting_in c.args.self.now) c.args.at _ _ c.args.opened _ (state (lent_in c.arguments.new.self))
-    c.arguments.new.given c.part_count-count.result
-    (c.arguments.new.self.fuel - 1) (function_of (tree_at c.args.self.now.table.now c.in-Some.f)) _ _
-    (state (lent_in c.bind.new.self)) k.runs l.is (eqb-ne _ _ o) z n.body n.parameters
-    (rw (s.table, g) at c.bind.ensures.bound) in
-    let j = rw (u.table, u.depth, s.table, s.depth) at (recast (Ended c.in-Err-Ended.end) c.in-Err-Ended.field-0-is c.in-Err-Ended.ensures.ran) in
-    record {
-      runs = rw p.is (y ∙ ap (leave_call (pos 0) υ) j.runs);
-      fuel = omega (arith, j.fuel, k.fuel, c.bind.ensures.progress.fuel);
-      kept = (omega (arith, j.kept.0, k.kept, e), j.kept.1, j.kept.2);
-      ends = tt;
-    }
+    let l = calling c.args.self.now c.arguments.new.self c.arguments.new.given c.requires.ready c.requires.kind
+    c.part_count-count.ensures (omega arith) c.arguments.ensures.same c.in_ok-next.ensures.ran c.in-Some.ensures
+    c.if-opened-self.false in
+    run-ended l (omega arith) refl (search rules) c.bind.ensures.bound c.bind.ensures.progress c.bind.ensures.same
+    c.statement.new.self c.in-Err-Ended.end (recast (Ended c.in-Err-Ended.end) c.in-Err-Ended.field-0-is c.in-Err-Ended.ensures.ran)
