@@ -3,11 +3,11 @@
 
 Usage: oracle.py [check|walk] < TEXT
 
-Standard output is that of `aisle`, `aisle check` or `aisle walk` on the same text (docs/program.md). Every run is made
-twice, by the tree run (docs/tree-run.md) and by the stack machine (docs/machine.md); where the two differ, or a run makes
-more steps than (ticks + 1) x code length, nothing is printed and the status is 2.
+Standard output is that of `aisle`, `aisle check` or `aisle walk` on the same text (docs/program.md). Each run that ends
+is made twice, by the stack machine (docs/machine.md) and by the tree run (docs/tree-run.md). Where the two differ, or a
+run makes more steps than (ticks + 1) x code length, the oracle fails: nothing is printed and the status is 2.
 
-This is no translation of the program's sources: it shares nothing with them but the pages in docs/.
+It is written from the pages in docs/ alone, and no translation of the program's sources.
 """
 import re
 import sys
@@ -28,7 +28,7 @@ def unreadable(line, problem):
     return Unreadable(f"line {line}: {problem}")
 
 
-# ---------------------------------------------------------------- refusals and endings (docs/refusals.md, docs/program.md)
+# Refusals and endings (docs/refusals.md, docs/program.md)
 
 SENTENCES = {
     "TableSize": (1, "a table has 1 to 1024 records"),
@@ -78,7 +78,7 @@ def end_sentence(end):
     }[end.ending]
 
 
-# ------------------------------------------------------------------------------------ the node table (docs/node-table.md)
+# The node table (docs/node-table.md)
 
 Record = namedtuple("Record", "kind a v")
 
@@ -181,7 +181,7 @@ def check_shape(table):
     return root, depths
 
 
-# -------------------------------------------------------------------------------- names and frame need (docs/names.md)
+# Names and frame need (docs/names.md)
 
 class Program:
     """A tree whose names are in order."""
@@ -250,7 +250,7 @@ def need_of(node):
     return max(need_of(part) for part in parts)
 
 
-# ------------------------------------------------------------------------- number kinds and racks (docs/kinds-and-racks.md)
+# Number kinds and racks (docs/kinds-and-racks.md)
 
 class Counter:
     @staticmethod
@@ -330,7 +330,7 @@ def rail_rack(words):
     return Rack(Rail, words[:4096], lambda word: -1000000 <= word <= 1000000)
 
 
-# ------------------------------------------------------------------------------------------ the tree run (docs/tree-run.md)
+# The tree run (docs/tree-run.md)
 
 class Ended(Exception):
     def __init__(self, ending, place):
@@ -453,7 +453,7 @@ class TreeRun:
         return answer
 
 
-# ---------------------------------------------------------------------------------------- stack code (docs/stack-code.md)
+# Stack code (docs/stack-code.md)
 
 class Code:
     def __init__(self, program):
@@ -537,7 +537,7 @@ class Code:
                 self.emit(operation[kind], 0, place)
 
 
-# ------------------------------------------------------------------------------------- the stack machine (docs/machine.md)
+# The stack machine (docs/machine.md)
 
 class Machine:
     def __init__(self, code, depth, fuel):
@@ -674,7 +674,7 @@ def compare(code, report, machine, words, rack):
         raise Contradiction("too many steps")
 
 
-# ---------------------------------------------------------------------------------------------------- the cell (docs/cell.md)
+# The cell (docs/cell.md)
 
 class Cell:
     """A cell with the words and the rack that each call is lent."""
@@ -738,7 +738,7 @@ def check_limits(fuel, depth):
         raise Refused("FuelOrDepth")
 
 
-# -------------------------------------------------------------------------------------------- reading texts (docs/program.md)
+# Reading texts (docs/program.md)
 
 WHITE_SPACE = "\t\n\v\f\r \x85\xa0\u1680\u2000-\u200a\u2028\u2029\u202f\u205f\u3000"
 
@@ -895,7 +895,7 @@ def read_table(text):
     return records, settings
 
 
-# -------------------------------------------------------------------------------------------------- printing (docs/program.md)
+# Printing (docs/program.md)
 
 def list_line(name, words, kind):
     return " ".join([name] + [kind.text(word) for word in words])

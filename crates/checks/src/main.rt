@@ -1,5 +1,5 @@
-// Makes many cases, one after another, and prints what `aisle` prints for each. In standard input a case begins with a line
-// `== MODE NAME`; up to the next such line follows the text that `aisle` would be given in that mode.
+// Makes many cases, one after another, and prints what `aisle` prints for each. In standard input a case begins with a
+// line `== MODE NAME`; up to the next such line follows the text that `aisle` would be given in that mode.
 #![tactic(auto)]
 
 use anyhow::anyhow;

@@ -144,3 +144,29 @@ impl fmt::Display for Numbers<RunEnd> {
         write!(f, "ending {}, place {place}", ending.number())
     }
 }
+
+#[cfg(test)]
+mod tests {
+    use super::*;
+    use std::test::Fail;
+
+    // Two sentences that only a job comes to, which tells them on standard error.
+    #[test]
+    fn sentences_of_jobs_alone(rt: HostRuntime) -> Result<(), Fail> {
+        assert_eq!(rt;
+            Explained(Refusal::WrongState)
+                .to_string(rt.alloc())?
+                .as_str(),
+            "the cell does not take this call in the state that it is in"
+        );
+        let end = RunEnd {
+            ending: Ending::CannotHold,
+            place: 16,
+        };
+        assert_eq!(rt;
+            Ended(end).to_string(rt.alloc())?.as_str(),
+            "record 16 writes a word that its bay cannot hold"
+        );
+        Ok(())
+    }
+}
