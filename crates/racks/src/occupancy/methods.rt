@@ -32,6 +32,7 @@ impl OccupancyRack {
         self.count
     }
 
+    #[tactic(auto, using(crate::proofs::Packed::word_below))]
     fn word_at(&self, slot: usize) -> i32
         requires { slot < length (occupancy_bays self.now) }
         ensures { Some result ≡ slice_get (occupancy_bays self.now) slot }
@@ -39,6 +40,7 @@ impl OccupancyRack {
         i32::from((self.words[slot / 64] >> (slot % 64)) & 1 == 1)
     }
 
+    #[tactic(auto, using(crate::proofs::Packed::word_below))]
     fn put(&mut self, slot: usize, word: i32)
         requires below { slot < length (occupancy_bays self.old) }
         requires bit { holds_bit word ≡ true }
