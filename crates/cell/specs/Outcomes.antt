@@ -332,6 +332,7 @@ module _ {W : Type 0} (kind : Kind W) (holds : W → Bool) where
       (counted (w.cell.steps + r.made)) end w.cell)
       r.state
 
+  -- At most so many steps of the run that is going on.
   abbrev pub ran_of : ℕ → World W → Ran W
   ran_of steps w =
       let before = w.cell.registers in

@@ -95,7 +95,7 @@ module _ {W : Type 0} (kind : Kind W) (holds : W → Bool) where
         (a : Armed W) → n.armed ≡ Some a → (a.fuel + 1) * length (code_told w.cell) ≤ a.granted
         → w.cell.state ≡ Over
 
-  -- How many steps have been made since the last arm taken, once a call is taken too: a run adds those that the
+  -- How many steps have been made since the last arm taken, with one call more that is taken: a run adds those that the
   -- machine makes of it.
   abbrev pub made_by : World W → Call → ℕ → ℕ
   made_by w (Load table) made = made
@@ -108,7 +108,7 @@ module _ {W : Type 0} (kind : Kind W) (holds : W → Bool) where
   made_after w c (Ok a) made = made_by w c made
   made_after w c (Err e) made = made
 
-  -- The same of calls that are made one after another. No number is too large for it.
+  -- The same of calls that are made one after another, told or not and however many.
   abbrev pub made_from : ℕ → World W → List Call → ℕ
   made_from made w [] = made
   made_from made w (c ∷ calls) =

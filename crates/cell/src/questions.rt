@@ -1,6 +1,7 @@
 // What a cell is asked.
 ghost use Rattle.std.specs.Prelude.{◌≡◌};
-ghost use Rattle.cell.specs.Outcomes.{code_told, ticks_told, steps_told, end_told, globals_told, words_wanted, words_suffice};
+ghost use Rattle.cell.specs.Outcomes.{code_told, ticks_told, steps_told, end_told, globals_told};
+ghost use Rattle.cell.specs.Outcomes.{words_wanted, words_suffice};
 ghost use Rattle.cell.specs.Showing.{shown};
 
 use crate::calls::State;
@@ -26,7 +27,7 @@ impl Cell {
         }
     }
 
-    // The fuel spent since the last arm, in Running and Over; outside a run there is nothing to tell, and it is 0.
+    // The fuel spent since the last arm, in Running and Over; outside a run there is nothing to tell: 0.
     pub fn ticks(&self) -> u32
         ensures { result ≡ ticks_told (shown self.now) }
     {
@@ -36,7 +37,7 @@ impl Cell {
         }
     }
 
-    // The instructions made since the last arm, in Running and Over; outside a run there is nothing to tell, and it is 0.
+    // The instructions made since the last arm, in Running and Over; outside a run there is nothing to tell: 0.
     pub fn steps(&self) -> u32
         ensures { result ≡ steps_told (shown self.now) }
     {
