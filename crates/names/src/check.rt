@@ -9,9 +9,8 @@ ghost use Rattle.names.specs.Passes.{SameLenders};
 ghost use Rattle.names.specs.Tables.{checked_bodies, checked_names, table_rules};
 
 use crate::context::Context;
-use crate::declared::Declared;
+use crate::declared::{Declared, Room};
 use crate::frame::statement as measure;
-use crate::signature::Signature;
 use crate::sound::SoundTable;
 use crate::summary::Summary;
 use script::Record;
@@ -61,9 +60,7 @@ pub fn check_table(table: &[Record]) -> Result<Summary, Refusal>
     ensures meaning { RightlyAnswered table.now result }
 {
     let table = SoundTable::new(table)?;
-    let mut names: [u16; 128] = [0; 128];
-    let mut signatures = [Signature::default(); 128];
-    check_names(table, &mut Declared::new(&mut names, &mut signatures))
+    check_names(table, &mut Declared::new(&mut Room::new()))
 }
 
 #[cfg(test)]

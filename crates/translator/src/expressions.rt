@@ -1,5 +1,5 @@
 // Code of expressions: an expression and an argument list, in a ring of recursive functions, as checker and walk are.
-// How many parts there are, and from where on, differs from call to call here and in the other ring: they make no value.
+// How many parts there are, and from where on, differs from call to call in both rings: they make no value.
 ghost use Rattle.std.specs.Prelude.{◌≡◌, ◌+◌, ◌≤◌, reverse, vec_len, vec_capacity};
 ghost use Rattle.stack.specs.Store.{contents};
 ghost use Rattle.script.specs.declared.rows.Sort.TheVariants.{Expression};

@@ -13,10 +13,12 @@ use crate::state::{Stop, Valued, end_at};
 use crate::walker::Walker;
 use kinds::NumberKind;
 use script::Ending;
-use script::rows::NodeKind;
+use script::rows::{NodeKind, Operator};
 use syntax::parts::{node_kind, part_count, statement_count};
 
 // `opened` calls are open: a parameter, since a return restores it, where a field would be put back on each way out.
+// Expressions nest as deeply as a table is long: those with parts are out of line, so that a nested record takes the
+// room of one of them, not of all.
 // Where parts stand and how many, `at` and `count`, differs from call to call, so they make no value.
 impl<'a> Walker<'a> {
     #[cycle(walk)]
@@ -35,41 +37,82 @@ impl<'a> Walker<'a> {
                 let word = self.word_of(node.a);
                 Ok(Valued { word, next: at + 1 })
             }
-            NodeKind::TwoPart(operator) => {
-                let x = self.expression(at + 1, opened)?;
-                let y = self.expression(x.next, opened)?;
-                let word = apply(operator, x.word, y.word);
-                Ok(Valued { word, next: y.next })
-            }
-            NodeKind::Assignment => {
-                let value = self.expression(at + 1, opened)?;
-                self.assign(node.a, value.word);
-                Ok(value)
-            }
+            NodeKind::TwoPart(operator) => self.binary(operator, at, opened),
+            NodeKind::Assignment => self.assignment(at, opened),
             NodeKind::Call => self.call(at, opened),
-            NodeKind::BayRead => {
-                let slot = self.expression(at + 1, opened)?;
-                let word = read_bay(self.bays, slot.word, at)?;
-                Ok(Valued {
-                    word,
-                    next: slot.next,
-                })
-            }
-            NodeKind::BayWrite => {
-                let slot = self.expression(at + 1, opened)?;
-                let value = self.expression(slot.next, opened)?;
-                let word = write_bay(self.bays, slot.word, value.word, at)?;
-                Ok(Valued {
-                    word,
-                    next: value.next,
-                })
-            }
+            NodeKind::BayRead => self.read(at, opened),
+            NodeKind::BayWrite => self.write(at, opened),
             // never: an accepted table has an expression here
             _ => Ok(Valued {
                 word: 0,
                 next: at + 1,
             }),
         }
+    }
+
+    // Two parts run left to right.
+    #[cycle(walk)]
+    #[inline(never)]
+    fn binary(&mut self, operator: Operator, at: usize, opened: usize) -> Result<Valued, Stop>
+        requires ready { ExpressionAhead self.old opened at }
+        requires kind { Is (is.TwoPart operator) self.old.table.now at }
+        ensures ran { ExpressionWalked self.old self.new opened at result }
+        ensures same { Same self.old self.new }
+    {
+        let x = self.expression(at + 1, opened)?;
+        let y = self.expression(x.next, opened)?;
+        let word = apply(operator, x.word, y.word);
+        Ok(Valued { word, next: y.next })
+    }
+
+    // The name's newest binding gets the word.
+    #[cycle(walk)]
+    #[inline(never)]
+    fn assignment(&mut self, at: usize, opened: usize) -> Result<Valued, Stop>
+        requires ready { ExpressionAhead self.old opened at }
+        requires kind { Is is.Assignment self.old.table.now at }
+        ensures ran { ExpressionWalked self.old self.new opened at result }
+        ensures same { Same self.old self.new }
+    {
+        let name = self.table[at].a;
+        let value = self.expression(at + 1, opened)?;
+        self.assign(name, value.word);
+        Ok(value)
+    }
+
+    // The word in the bay that the part names.
+    #[cycle(walk)]
+    #[inline(never)]
+    fn read(&mut self, at: usize, opened: usize) -> Result<Valued, Stop>
+        requires ready { ExpressionAhead self.old opened at }
+        requires kind { Is is.BayRead self.old.table.now at }
+        ensures ran { ExpressionWalked self.old self.new opened at result }
+        ensures same { Same self.old self.new }
+    {
+        let slot = self.expression(at + 1, opened)?;
+        let word = read_bay(self.bays, slot.word, at)?;
+        Ok(Valued {
+            word,
+            next: slot.next,
+        })
+    }
+
+    // The second part's word, into the bay that the first names.
+    #[cycle(walk)]
+    #[inline(never)]
+    fn write(&mut self, at: usize, opened: usize) -> Result<Valued, Stop>
+        requires ready { ExpressionAhead self.old opened at }
+        requires kind { Is is.BayWrite self.old.table.now at }
+        ensures ran { ExpressionWalked self.old self.new opened at result }
+        ensures same { Same self.old self.new }
+    {
+        let slot = self.expression(at + 1, opened)?;
+        let value = self.expression(slot.next, opened)?;
+        let word = write_bay(self.bays, slot.word, value.word, at)?;
+        Ok(Valued {
+            word,
+            next: value.next,
+        })
     }
 
     // The words of `count` arguments, into `given`; the index after them. By an index, since a proof knows nothing of
@@ -96,7 +139,9 @@ impl<'a> Walker<'a> {
         Ok(next)
     }
 
+    // The arguments run, and then the function's body, if depth and fuel allow.
     #[cycle(walk)]
+    #[inline(never)]
     fn call(&mut self, at: usize, opened: usize) -> Result<Valued, Stop>
         requires ready { ExpressionAhead self.old opened at }
         requires kind { Is is.Call self.old.table.now at }

@@ -9,7 +9,7 @@ ghost use Rattle.translator.specs.Translations.{held, nothing_held, translated, 
 use crate::emitter::Emitter;
 use crate::translation::Translation;
 use code::instruction::{Code, FunctionEntry, Instruction, Operation};
-use names::{Context, Declared, Signature, SoundTable, Summary, check_names};
+use names::{Context, Declared, Room, SoundTable, Summary, check_names};
 use script::{Record, Refusal};
 use stack::Stack;
 use std::alloc::{AllocError, Global};
@@ -37,9 +37,8 @@ impl Translation {
             (λ _. length (held self.new).code ≤ 4 * length table.now) }
     {
         let table = SoundTable::new(table)?;
-        let mut names: [u16; 128] = [0; 128];
-        let mut signatures = [Signature::default(); 128];
-        let mut declared = Declared::new(&mut names, &mut signatures);
+        let mut room = Room::new();
+        let mut declared = Declared::new(&mut room);
         let summary = check_names(table, &mut declared)?;
         self.fill(declared.context(table), summary.main);
         Ok(summary)

@@ -24,133 +24,133 @@ use Rattle.walk.proofs.Views.{no-parts, no_other}
 use Rattle.walk.proofs.walker.Walker.+walk.Goals as goal
 use Rattle.walk.proofs.walker.Walker.+walk.Goals.{call-in-Ok, call-in-Err-Returned}
 
-pub expression-expression-requires : goal.expression-expression-requires
-expression-expression-requires t c =
-    let p = two_part_ready c.requires _ refl _ (sym c.in-TwoPart.ensures) in
+pub binary-expression-requires : goal.binary-expression-requires
+binary-expression-requires t c =
+    let p = two_part_ready c.requires.ready _ refl _ c.requires.kind in
     (omega (arith, p.first.part.within), p.first)
 
-pub expression-returns-in_err-x-in-TwoPart-clause-ran : goal.expression-returns-in_err-x-in-TwoPart-clause-ran
-expression-returns-in_err-x-in-TwoPart-clause-ran t c =
-    let p = two_part_ready c.requires _ refl _ (sym c.in-TwoPart.ensures) in
-    let k = c.in_err-x-in-TwoPart.ensures.ran in
+pub binary-returns-in_err-x-clause-ran : goal.binary-returns-in_err-x-clause-ran
+binary-returns-in_err-x-clause-ran t c =
+    let p = two_part_ready c.requires.ready _ refl _ c.requires.kind in
+    let k = c.in_err-x.ensures.ran in
     passes c.from_residual.ensures.1 (omega arith)
     (omega arith) k
     (rw p.is ((by-rules (setting_in c.args.self.now)).of_binary _ _ _ _ _ _
     ∙ stops _ _ _ k.runs))
 
-pub expression-expression-requires-in-TwoPart : goal.expression-expression-requires-in-TwoPart
-expression-expression-requires-in-TwoPart t c =
+pub binary-expression-requires-2 : goal.binary-expression-requires-2
+binary-expression-requires-2 t c =
     let s = c.expression.ensures.same in
-    let k = c.in_ok-x-in-TwoPart.ensures.ran in
-    let p = two_part_ready c.requires c.in_ok-x-in-TwoPart.x.next k.ends _
-    (sym c.in-TwoPart.ensures) in
+    let k = c.in_ok-x.ensures.ran in
+    let p = two_part_ready c.requires.ready c.in_ok-x.x.next k.ends _
+    c.requires.kind in
     let r = p.second (lent_in c.expression.new.self)
     (same-room s k.kept) in
     rw (s.table, s.depth) (omega (arith, r.part.within, k.ends), r)
 
-pub expression-returns-in_err-y-in-TwoPart-clause-ran : goal.expression-returns-in_err-y-in-TwoPart-clause-ran
-expression-returns-in_err-y-in-TwoPart-clause-ran t c =
+pub binary-returns-in_err-y-clause-ran : goal.binary-returns-in_err-y-clause-ran
+binary-returns-in_err-y-clause-ran t c =
     let s = c.expression.ensures.same in
-    let k = c.in_ok-x-in-TwoPart.ensures.ran in
-    let j = rw (s.table, s.depth) at c.in_err-y-in-TwoPart.ensures.ran in
-    let p = two_part_ready c.requires c.in_ok-x-in-TwoPart.x.next k.ends _
-    (sym c.in-TwoPart.ensures) in
-    passes c.from_residual-in_err-y-in-TwoPart.ensures.1
+    let k = c.in_ok-x.ensures.ran in
+    let j = rw (s.table, s.depth) at c.in_err-y.ensures.ran in
+    let p = two_part_ready c.requires.ready c.in_ok-x.x.next k.ends _
+    c.requires.kind in
+    passes c.from_residual-in_err-y.ensures.1
     (omega (arith, k.kept)) k.fuel j
     (rw p.is ((by-rules (setting_in c.args.self.now)).of_binary _ _ _ _ _ _
     ∙ (goes_on _ _ _ k.runs ∙ stops _ _ _ j.runs)))
 
-pub expression-expression-requires-in-Assignment : goal.expression-expression-requires-in-Assignment
-expression-expression-requires-in-Assignment t c =
-    let p = assign-ready c.requires (sym c.in-Assignment.ensures) in
+pub assignment-expression-requires : goal.assignment-expression-requires
+assignment-expression-requires t c =
+    let p = assign-ready c.requires.ready c.requires.kind in
     (omega (arith, p.part.part.within), p.part)
 
-pub expression-returns-in_err-value-in-Assignment-clause-ran : goal.expression-returns-in_err-value-in-Assignment-clause-ran
-expression-returns-in_err-value-in-Assignment-clause-ran t c =
-    let p = assign-ready c.requires (sym c.in-Assignment.ensures) in
-    let k = c.in_err-value-in-Assignment.ensures.ran in
-    passes c.from_residual-in_err-value-in-Assignment.ensures.1
+pub assignment-returns-in_err-value-clause-ran : goal.assignment-returns-in_err-value-clause-ran
+assignment-returns-in_err-value-clause-ran t c =
+    let p = assign-ready c.requires.ready c.requires.kind in
+    let k = c.in_err-value.ensures.ran in
+    passes c.from_residual.ensures.1
     (omega arith) (omega arith) k
     (rw p.is ((by-rules (setting_in c.args.self.now)).of_assign _ _ _ _ _
     ∙ stops _ _ _ k.runs))
 
-pub expression-expression-requires-in-BayRead : goal.expression-expression-requires-in-BayRead
-expression-expression-requires-in-BayRead t c =
-    let p = bay-read-ready c.requires (sym c.in-BayRead.ensures) in
+pub read-expression-requires : goal.read-expression-requires
+read-expression-requires t c =
+    let p = bay-read-ready c.requires.ready c.requires.kind in
     (omega (arith, p.part.part.within), p.part)
 
-pub expression-returns-in_err-slot-in-BayRead-clause-ran : goal.expression-returns-in_err-slot-in-BayRead-clause-ran
-expression-returns-in_err-slot-in-BayRead-clause-ran t c =
-    let p = bay-read-ready c.requires (sym c.in-BayRead.ensures) in
-    let k = c.in_err-slot-in-BayRead.ensures.ran in
-    passes c.from_residual-in_err-slot-in-BayRead.ensures.1
+pub read-returns-in_err-slot-clause-ran : goal.read-returns-in_err-slot-clause-ran
+read-returns-in_err-slot-clause-ran t c =
+    let p = bay-read-ready c.requires.ready c.requires.kind in
+    let k = c.in_err-slot.ensures.ran in
+    passes c.from_residual.ensures.1
     (omega arith) (omega arith) k
     (rw p.is ((by-rules (setting_in c.args.self.now)).of_bay_read _ _ _ _
     ∙ stops _ _ _ k.runs))
 
-pub expression-returns-in_err-word-in-BayRead-clause-ran : goal.expression-returns-in_err-word-in-BayRead-clause-ran
-expression-returns-in_err-word-in-BayRead-clause-ran t c =
-    let p = bay-read-ready c.requires (sym c.in-BayRead.ensures) in
-    let k = c.in_ok-slot-in-BayRead.ensures.ran in
-    let f : SFits w32 c.in_ok-slot-in-BayRead.slot.word = search rules in
-    let b = simp to_z-of_z at c.in_err-word-in-BayRead.ensures in
-    refuses _ c.from_residual-in_err-word-in-BayRead.ensures.1 k.fuel (omega (arith, k.kept))
+pub read-returns-in_err-word-clause-ran : goal.read-returns-in_err-word-clause-ran
+read-returns-in_err-word-clause-ran t c =
+    let p = bay-read-ready c.requires.ready c.requires.kind in
+    let k = c.in_ok-slot.ensures.ran in
+    let f : SFits w32 c.in_ok-slot.slot.word = search rules in
+    let b = simp to_z-of_z at c.in_err-word.ensures in
+    refuses _ c.from_residual-in_err-word.ensures.1 k.fuel (omega (arith, k.kept))
     (rw p.is ((by-rules (setting_in c.args.self.now)).of_bay_read _ _ _ _
     ∙ (goes_on _ _ _ k.runs ∙ reads c.args.at _
-    (lent_in c.expression-in-BayRead.new.self) _ b)))
+    (lent_in c.expression.new.self) _ b)))
 
-pub expression-expression-requires-in-BayWrite : goal.expression-expression-requires-in-BayWrite
-expression-expression-requires-in-BayWrite t c =
-    let p = bay_write_ready c.requires _ refl (sym c.in-BayWrite.ensures) in
+pub write-expression-requires : goal.write-expression-requires
+write-expression-requires t c =
+    let p = bay_write_ready c.requires.ready _ refl c.requires.kind in
     (omega (arith, p.first.part.within), p.first)
 
-pub expression-returns-in_err-slot-in-BayWrite-clause-ran : goal.expression-returns-in_err-slot-in-BayWrite-clause-ran
-expression-returns-in_err-slot-in-BayWrite-clause-ran t c =
-    let p = bay_write_ready c.requires _ refl (sym c.in-BayWrite.ensures) in
-    let k = c.in_err-slot-in-BayWrite.ensures.ran in
-    passes c.from_residual-in_err-slot-in-BayWrite.ensures.1
+pub write-returns-in_err-slot-clause-ran : goal.write-returns-in_err-slot-clause-ran
+write-returns-in_err-slot-clause-ran t c =
+    let p = bay_write_ready c.requires.ready _ refl c.requires.kind in
+    let k = c.in_err-slot.ensures.ran in
+    passes c.from_residual.ensures.1
     (omega arith) (omega arith) k
     (rw p.is ((by-rules (setting_in c.args.self.now)).of_bay_write _ _ _ _ _
     ∙ stops _ _ _ k.runs))
 
-pub expression-expression-requires-in-BayWrite-2 : goal.expression-expression-requires-in-BayWrite-2
-expression-expression-requires-in-BayWrite-2 t c =
-    let s = c.expression-in-BayWrite.ensures.same in
-    let k = c.in_ok-slot-in-BayWrite.ensures.ran in
-    let p = bay_write_ready c.requires c.in_ok-slot-in-BayWrite.slot.next k.ends
-    (sym c.in-BayWrite.ensures) in
-    let r = p.second (lent_in c.expression-in-BayWrite.new.self)
+pub write-expression-requires-2 : goal.write-expression-requires-2
+write-expression-requires-2 t c =
+    let s = c.expression.ensures.same in
+    let k = c.in_ok-slot.ensures.ran in
+    let p = bay_write_ready c.requires.ready c.in_ok-slot.slot.next k.ends
+    c.requires.kind in
+    let r = p.second (lent_in c.expression.new.self)
     (same-room s k.kept) in
     rw (s.table, s.depth) (omega (arith, r.part.within, k.ends), r)
 
-pub expression-returns-in_err-value-in-BayWrite-clause-ran : goal.expression-returns-in_err-value-in-BayWrite-clause-ran
-expression-returns-in_err-value-in-BayWrite-clause-ran t c =
-    let s = c.expression-in-BayWrite.ensures.same in
-    let k = c.in_ok-slot-in-BayWrite.ensures.ran in
-    let j = rw (s.table, s.depth) at c.in_err-value-in-BayWrite.ensures.ran in
-    let p = bay_write_ready c.requires c.in_ok-slot-in-BayWrite.slot.next k.ends
-    (sym c.in-BayWrite.ensures) in
-    passes c.from_residual-in_err-value-in-BayWrite.ensures.1
+pub write-returns-in_err-value-clause-ran : goal.write-returns-in_err-value-clause-ran
+write-returns-in_err-value-clause-ran t c =
+    let s = c.expression.ensures.same in
+    let k = c.in_ok-slot.ensures.ran in
+    let j = rw (s.table, s.depth) at c.in_err-value.ensures.ran in
+    let p = bay_write_ready c.requires.ready c.in_ok-slot.slot.next k.ends
+    c.requires.kind in
+    passes c.from_residual-in_err-value.ensures.1
     (omega (arith, k.kept)) k.fuel j
     (rw p.is ((by-rules (setting_in c.args.self.now)).of_bay_write _ _ _ _ _
     ∙ (goes_on _ _ _ k.runs ∙ stops _ _ _ j.runs)))
 
-pub expression-returns-in_err-word-in-BayWrite-clause-ran : goal.expression-returns-in_err-word-in-BayWrite-clause-ran
-expression-returns-in_err-word-in-BayWrite-clause-ran t c =
-    let s = c.expression-in-BayWrite.ensures.same in
-    let k = c.in_ok-slot-in-BayWrite.ensures.ran in
-    let j = rw (s.table, s.depth) at c.in_ok-value-in-BayWrite.ensures.ran in
-    let p = bay_write_ready c.requires c.in_ok-slot-in-BayWrite.slot.next k.ends
-    (sym c.in-BayWrite.ensures) in
-    let f : SFits w32 c.in_ok-slot-in-BayWrite.slot.word = search rules in
-    let g : SFits w32 c.in_ok-value-in-BayWrite.value.word = search rules in
-    let b = simp to_z-of_z at c.in_err-word-in-BayWrite.ensures.answer in
-    let d = simp to_z-of_z at c.in_err-word-in-BayWrite.ensures.bays in
-    refuses _ c.from_residual-in_err-word-in-BayWrite.ensures.1 (omega (arith, k.fuel, j.fuel))
+pub write-returns-in_err-word-clause-ran : goal.write-returns-in_err-word-clause-ran
+write-returns-in_err-word-clause-ran t c =
+    let s = c.expression.ensures.same in
+    let k = c.in_ok-slot.ensures.ran in
+    let j = rw (s.table, s.depth) at c.in_ok-value.ensures.ran in
+    let p = bay_write_ready c.requires.ready c.in_ok-slot.slot.next k.ends
+    c.requires.kind in
+    let f : SFits w32 c.in_ok-slot.slot.word = search rules in
+    let g : SFits w32 c.in_ok-value.value.word = search rules in
+    let b = simp to_z-of_z at c.in_err-word.ensures.answer in
+    let d = simp to_z-of_z at c.in_err-word.ensures.bays in
+    refuses _ c.from_residual-in_err-word.ensures.1 (omega (arith, k.fuel, j.fuel))
     (omega (arith, k.kept, j.kept))
     (rw p.is ((by-rules (setting_in c.args.self.now)).of_bay_write _ _ _ _ _
     ∙ (goes_on _ _ _ k.runs ∙ (goes_on _ _ _ j.runs
-    ∙ writes c.args.at _ (lent_in c.expression-in-BayWrite-2.new.self) _ _ b d))))
+    ∙ writes c.args.at _ (lent_in c.expression-2.new.self) _ _ b d))))
 
 pub expression-returns-in-Number-clause-ran : goal.expression-returns-in-Number-clause-ran
 expression-returns-in-Number-clause-ran t c =
@@ -169,64 +169,64 @@ expression-returns-in-Variable-clause-ran t c =
     (rw p.0 ((by-rules (setting_in c.args.self.now)).of_variable _ _ _ _))
     (omega arith) refl p.1
 
-pub expression-returns-in_ok-y-in-TwoPart-clause-ran : goal.expression-returns-in_ok-y-in-TwoPart-clause-ran
-expression-returns-in_ok-y-in-TwoPart-clause-ran t c =
+pub binary-returns-clause-ran : goal.binary-returns-clause-ran
+binary-returns-clause-ran t c =
     let s = c.expression.ensures.same in
-    let k = c.in_ok-x-in-TwoPart.ensures.ran in
-    let j = rw (s.table, s.depth) at c.in_ok-y-in-TwoPart.ensures.ran in
-    let p = two_part_ready c.requires c.in_ok-x-in-TwoPart.x.next k.ends _
-    (sym c.in-TwoPart.ensures) in
-    let f : SFits w32 c.in_ok-x-in-TwoPart.x.word = search rules in
-    let g : SFits w32 c.in_ok-y-in-TwoPart.y.word = search rules in
+    let k = c.in_ok-x.ensures.ran in
+    let j = rw (s.table, s.depth) at c.in_ok-y.ensures.ran in
+    let p = two_part_ready c.requires.ready c.in_ok-x.x.next k.ends _
+    c.requires.kind in
+    let f : SFits w32 c.in_ok-x.x.word = search rules in
+    let g : SFits w32 c.in_ok-y.y.word = search rules in
     let h : SFits w32 c.apply-word.result = search rules in
     gives _ (to_z-of_z w32 c.apply-word.result h ∙ simp to_z-of_z at c.apply-word.ensures)
     (rw p.is ((by-rules (setting_in c.args.self.now)).of_binary _ _ _ _ _ _
     ∙ (goes_on _ _ _ k.runs ∙ goes_on _ _ _ j.runs)))
     (omega (arith, k.fuel, j.fuel)) (j.kept ∙ k.kept) (j.ends ∙ p.ends)
 
-pub expression-returns-in_ok-value-in-Assignment-clause-ran : goal.expression-returns-in_ok-value-in-Assignment-clause-ran
-expression-returns-in_ok-value-in-Assignment-clause-ran t c =
-    let p = assign-ready c.requires (sym c.in-Assignment.ensures) in
-    let k = c.in_ok-value-in-Assignment.ensures.ran in
-    let f : SFits w32 c.in_ok-value-in-Assignment.value.word = search rules in
-    let b = rw (to_z-of_z w32 c.in_ok-value-in-Assignment.value.word f) at c.assign.ensures.bindings in
+pub assignment-returns-clause-ran : goal.assignment-returns-clause-ran
+assignment-returns-clause-ran t c =
+    let p = assign-ready c.requires.ready c.requires.kind in
+    let k = c.in_ok-value.ensures.ran in
+    let f : SFits w32 c.in_ok-value.value.word = search rules in
+    let b = rw (to_z-of_z w32 c.in_ok-value.value.word f) at c.assign.ensures.bindings in
     record {
       runs = rw p.is ((by-rules (setting_in c.args.self.now)).of_assign _ _ _ _ _
-          ∙ (goes_on _ _ _ k.runs ∙ ap (value c.in_ok-value-in-Assignment.value.word) (sym b)));
+          ∙ (goes_on _ _ _ k.runs ∙ ap (value c.in_ok-value.value.word) (sym b)));
       fuel = omega (arith, k.fuel, c.assign.ensures.progress.fuel);
       kept = omega (arith, k.kept, c.assign.ensures.progress.count);
       ends = k.ends ∙ p.ends;
     }
 
-pub expression-returns-in_ok-word-in-BayRead-clause-ran : goal.expression-returns-in_ok-word-in-BayRead-clause-ran
-expression-returns-in_ok-word-in-BayRead-clause-ran t c =
-    let p = bay-read-ready c.requires (sym c.in-BayRead.ensures) in
-    let k = c.in_ok-slot-in-BayRead.ensures.ran in
-    let f : SFits w32 c.in_ok-slot-in-BayRead.slot.word = search rules in
-    let g : SFits w32 c.in_ok-word-in-BayRead.word = search rules in
-    let b = simp to_z-of_z at c.in_ok-word-in-BayRead.ensures in
-    gives _ (to_z-of_z w32 c.in_ok-word-in-BayRead.word g)
+pub read-returns-clause-ran : goal.read-returns-clause-ran
+read-returns-clause-ran t c =
+    let p = bay-read-ready c.requires.ready c.requires.kind in
+    let k = c.in_ok-slot.ensures.ran in
+    let f : SFits w32 c.in_ok-slot.slot.word = search rules in
+    let g : SFits w32 c.in_ok-word.word = search rules in
+    let b = simp to_z-of_z at c.in_ok-word.ensures in
+    gives _ (to_z-of_z w32 c.in_ok-word.word g)
     (rw p.is ((by-rules (setting_in c.args.self.now)).of_bay_read _ _ _ _
     ∙ (goes_on _ _ _ k.runs ∙ reads c.args.at _
-    (lent_in c.expression-in-BayRead.new.self) _ b)))
+    (lent_in c.expression.new.self) _ b)))
     k.fuel k.kept (k.ends ∙ p.ends)
 
-pub expression-returns-in_ok-word-in-BayWrite-clause-ran : goal.expression-returns-in_ok-word-in-BayWrite-clause-ran
-expression-returns-in_ok-word-in-BayWrite-clause-ran t c =
-    let s = c.expression-in-BayWrite.ensures.same in
-    let k = c.in_ok-slot-in-BayWrite.ensures.ran in
-    let j = rw (s.table, s.depth) at c.in_ok-value-in-BayWrite.ensures.ran in
-    let p = bay_write_ready c.requires c.in_ok-slot-in-BayWrite.slot.next k.ends
-    (sym c.in-BayWrite.ensures) in
-    let f : SFits w32 c.in_ok-slot-in-BayWrite.slot.word = search rules in
-    let g : SFits w32 c.in_ok-value-in-BayWrite.value.word = search rules in
-    let h : SFits w32 c.in_ok-word-in-BayWrite.word = search rules in
-    let b = simp to_z-of_z at c.in_ok-word-in-BayWrite.ensures.answer in
-    let d = simp to_z-of_z at c.in_ok-word-in-BayWrite.ensures.bays in
-    gives _ (to_z-of_z w32 c.in_ok-word-in-BayWrite.word h)
+pub write-returns-clause-ran : goal.write-returns-clause-ran
+write-returns-clause-ran t c =
+    let s = c.expression.ensures.same in
+    let k = c.in_ok-slot.ensures.ran in
+    let j = rw (s.table, s.depth) at c.in_ok-value.ensures.ran in
+    let p = bay_write_ready c.requires.ready c.in_ok-slot.slot.next k.ends
+    c.requires.kind in
+    let f : SFits w32 c.in_ok-slot.slot.word = search rules in
+    let g : SFits w32 c.in_ok-value.value.word = search rules in
+    let h : SFits w32 c.in_ok-word.word = search rules in
+    let b = simp to_z-of_z at c.in_ok-word.ensures.answer in
+    let d = simp to_z-of_z at c.in_ok-word.ensures.bays in
+    gives _ (to_z-of_z w32 c.in_ok-word.word h)
     (rw p.is ((by-rules (setting_in c.args.self.now)).of_bay_write _ _ _ _ _
     ∙ (goes_on _ _ _ k.runs ∙ (goes_on _ _ _ j.runs
-    ∙ writes c.args.at _ (lent_in c.expression-in-BayWrite-2.new.self) _ _ b d))))
+    ∙ writes c.args.at _ (lent_in c.expression-2.new.self) _ _ b d))))
     (omega (arith, k.fuel, j.fuel)) (j.kept ∙ k.kept) (j.ends ∙ p.ends)
 
 pub expression-returns-in_default-clause-ran : goal.expression-returns-in_default-clause-ran

@@ -1,0 +1,221 @@
+// How walks end, and what they leave. A bay table holds every word, so no walk ends with 4, "cannot hold".
+use crate::tables;
+use racks::{BayTable, Rack};
+use script::examples::END_BAY;
+use script::{Ending, Limits, Record, RunEnd};
+use std::process::Abort;
+use walk::{Report, walk};
+
+// What a walk has to come to: its report, the first names, words and bays, and nines behind the names and words.
+#[derive(Clone, Copy)]
+struct Wanted {
+    ending: Ending,
+    place: usize,
+    answer: Option<i32>,
+    ticks: u32,
+    names: [u16; 3],
+    words: [i32; 3],
+    bays: [Option<i32>; 3],
+}
+
+impl Wanted {
+    fn report(&self) -> Report {
+        Report {
+            end: RunEnd {
+                ending: self.ending,
+                place: self.place,
+            },
+            answer: self.answer,
+            ticks: self.ticks,
+        }
+    }
+}
+
+// A walk over ten names and words, all nine, and some bays, all zero.
+fn check(rt: &impl Abort, table: &[Record], bays: usize, limits: Limits, wanted: Wanted) {
+    let mut names = [9; 10];
+    let mut words = [9; 10];
+    let mut rack = BayTable::new(bays);
+    let answer = walk(table, &mut names, &mut words, &mut rack, limits);
+    assert_eq!(rt; answer, Ok(wanted.report()));
+    for i in 0..3 {
+        assert_eq!(rt; names[i], wanted.names[i]);
+        assert_eq!(rt; words[i], wanted.words[i]);
+        assert_eq!(rt; rack.read(i), wanted.bays[i]);
+    }
+    for i in 3..10 {
+        assert_eq!(rt; names[i], 9);
+        assert_eq!(rt; words[i], 9);
+    }
+}
+
+fn limits(fuel: u32, depth: u32) -> Limits {
+    Limits { fuel, depth }
+}
+
+const NO_BAYS: [Option<i32>; 3] = [None, None, None];
+
+// The end-bay table: each turn of its while spends two fuel, one of them in a call.
+#[test]
+fn end_bay(rt: HostRuntime) {
+    check(
+        &rt,
+        END_BAY,
+        3,
+        limits(8, 1),
+        Wanted {
+            ending: Ending::Done,
+            place: 0,
+            answer: Some(0),
+            ticks: 8,
+            names: [0, 9, 9],
+            words: [4, 9, 9],
+            bays: [Some(1), Some(1), Some(1)],
+        },
+    );
+    check(
+        &rt,
+        END_BAY,
+        3,
+        limits(7, 1),
+        Wanted {
+            ending: Ending::NoFuel,
+            place: 14,
+            answer: None,
+            ticks: 7,
+            names: [0, 9, 9],
+            words: [3, 9, 9],
+            bays: [Some(1), Some(1), Some(1)],
+        },
+    );
+    check(
+        &rt,
+        END_BAY,
+        3,
+        limits(0, 1),
+        Wanted {
+            ending: Ending::NoFuel,
+            place: 9,
+            answer: None,
+            ticks: 0,
+            names: [0, 9, 9],
+            words: [0, 9, 9],
+            bays: [Some(0), Some(0), Some(0)],
+        },
+    );
+    check(
+        &rt,
+        END_BAY,
+        3,
+        limits(1, 0),
+        Wanted {
+            ending: Ending::TooDeep,
+            place: 14,
+            answer: None,
+            ticks: 1,
+            names: [0, 9, 9],
+            words: [0, 9, 9],
+            bays: [Some(0), Some(0), Some(0)],
+        },
+    );
+    check(
+        &rt,
+        END_BAY,
+        2,
+        limits(8, 1),
+        Wanted {
+            ending: Ending::NoSuchBay,
+            place: 16,
+            answer: None,
+            ticks: 6,
+            names: [0, 9, 9],
+            words: [3, 9, 9],
+            bays: [Some(1), Some(1), None],
+        },
+    );
+}
+
+// Parts run left to right: 1 + 11, and less (2, 4). Dropped parameters stay behind the global.
+#[test]
+fn order(rt: HostRuntime) {
+    check(
+        &rt,
+        &tables::variable_then_call(),
+        0,
+        limits(1, 1),
+        Wanted {
+            ending: Ending::Done,
+            place: 0,
+            answer: Some(12),
+            ticks: 1,
+            names: [0, 9, 9],
+            words: [11, 9, 9],
+            bays: NO_BAYS,
+        },
+    );
+    check(
+        &rt,
+        &tables::arguments_in_order(),
+        0,
+        limits(1, 1),
+        Wanted {
+            ending: Ending::Done,
+            place: 0,
+            answer: Some(-2),
+            ticks: 1,
+            names: [0, 1, 2],
+            words: [4, 2, 4],
+            bays: NO_BAYS,
+        },
+    );
+}
+
+// A block's locals are dropped and stay behind; a bay holds the least word; a call without a return has the value 0.
+#[test]
+fn values(rt: HostRuntime) {
+    check(
+        &rt,
+        &tables::block_in_block(),
+        0,
+        limits(0, 0),
+        Wanted {
+            ending: Ending::Done,
+            place: 0,
+            answer: Some(7),
+            ticks: 0,
+            names: [0, 1, 9],
+            words: [7, 5, 9],
+            bays: NO_BAYS,
+        },
+    );
+    check(
+        &rt,
+        &tables::least_word_in_bay(),
+        1,
+        limits(0, 0),
+        Wanted {
+            ending: Ending::Done,
+            place: 0,
+            answer: Some(i32::MIN),
+            ticks: 0,
+            names: [9, 9, 9],
+            words: [9, 9, 9],
+            bays: [Some(i32::MIN), None, None],
+        },
+    );
+    check(
+        &rt,
+        &tables::call_without_return(),
+        0,
+        limits(1, 1),
+        Wanted {
+            ending: Ending::Done,
+            place: 0,
+            answer: Some(0),
+            ticks: 1,
+            names: [9, 9, 9],
+            words: [9, 9, 9],
+            bays: NO_BAYS,
+        },
+    );
+}
