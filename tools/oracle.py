@@ -1,5 +1,5 @@
 #!/usr/bin/env python3
-"""Says what `aisle` prints, by the rules in docs/ alone.
+"""Says what `aisle` prints, by the rules in docs/.
 
 Usage: oracle.py [check|walk] < TEXT
 
@@ -7,7 +7,7 @@ Standard output is that of `aisle`, `aisle check` or `aisle walk` on the same te
 is made twice, by the stack machine (docs/machine.md) and by the tree run (docs/tree-run.md). Where the two differ, or a
 run makes more steps than (ticks + 1) x code length, the oracle fails: nothing is printed and the status is 2.
 
-It is written from the pages in docs/ alone, and no translation of the program's sources.
+It is written after the pages in docs/, and is no translation of the program's sources.
 """
 import re
 import sys

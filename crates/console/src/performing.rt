@@ -7,7 +7,8 @@ use kinds::NumberKind;
 use racks::{BayTable, OccupancyRack, Rack, RailRack};
 use script::{Ending, Refusal};
 use std::{fmt, io};
-use texts::job::{CallLine, Job, RackChoice};
+use texts::job::{CallLine, Job, JobReader, RackChoice};
+use texts::read_text;
 
 // By hand, since a `From` would stand in a crate of one of the two types.
 fn call_of(line: &CallLine) -> Call<'_> {
@@ -118,8 +119,8 @@ fn perform<W: NumberKind + Copy + fmt::Display, R: Rack<Word = W>>(
     Ok(())
 }
 
-pub fn perform_job(rt: &(impl Print + Eprint + AllocGlobal), job: Job) -> anyhow::Result<()> {
-    let Job { rack, words, calls } = job;
+pub fn perform_job(rt: &(impl Print + Eprint + AllocGlobal), text: &str) -> anyhow::Result<()> {
+    let Job { rack, words, calls } = read_text(JobReader::new(rt.alloc()), text)?;
     match rack {
         RackChoice::Bays(count) => perform(rt, &calls, words, &mut BayTable::new(count)),
         RackChoice::Occupancy(count) => perform(rt, &calls, words, &mut OccupancyRack::new(count)),

@@ -1,4 +1,6 @@
-// Walks a table of accepted shape over a bay table, and prints what the run came to.
+// Walks a node table over a bay table, and prints what the run came to.
+use crate::checking::check;
+use crate::listing::list_code;
 use crate::printing::{print_bays, print_list};
 use crate::wording::{Ended, Numbers, print_refusal};
 use names::check::check_table;
@@ -16,7 +18,7 @@ fn print_report(rt: &impl Print, report: Report) -> io::Result<()> {
     println!(rt; "ticks {}", report.ticks)
 }
 
-pub fn walk_job(rt: &(impl Print + AllocGlobal), job: &TableJob) -> anyhow::Result<()> {
+fn walk_job(rt: &(impl Print + AllocGlobal), job: &TableJob) -> anyhow::Result<()> {
     let Settings {
         bays,
         limits,
@@ -39,4 +41,13 @@ pub fn walk_job(rt: &(impl Print + AllocGlobal), job: &TableJob) -> anyhow::Resu
         }
         Err(refusal) => print_refusal(rt, refusal),
     }
+}
+
+// Checks the table; then lists its code and walks it.
+pub fn walk_table(rt: &(impl Print + AllocGlobal), text: &str) -> anyhow::Result<()> {
+    if let Some(job) = check(rt, text)? {
+        list_code(rt, &job.table)?;
+        walk_job(rt, &job)?;
+    }
+    Ok(())
 }
