@@ -80,7 +80,7 @@ impl Count {
     }
 }
 
-// May a field have this value, whose largest is `most`?
+// May a field whose largest value is `most` have this one?
 pub(crate) fn allows(most: Option<u16>, value: i32) -> bool
     ensures { result ≡ within most value }
 {
@@ -93,8 +93,8 @@ pub struct Parts {
     pub sort: Sort,
 }
 
-// The fields `a` and `v` are 0 up to a largest value, or any where none is the largest. A record's parts are its `first`
-// parts, then its `second` parts.
+// A field, `a` or `v`, may be 0 up to the largest value that stands here, and anything where none does. A record's parts
+// are its `first` parts, then its `second` parts.
 #[derive(Clone, Copy, PartialEq, Eq, Debug)]
 pub struct Row {
     pub node: NodeKind,
