@@ -6,11 +6,11 @@ use lib.Seq.{take-append_seam}
 use Rattle.kinds.specs.Kinds.{Kind}
 use Rattle.script.specs.declared.ending.Ending.{Ending}
 use Rattle.script.specs.declared.ending.Ending.TheVariants.{Done, NoFuel, TooDeep, NoSuchBay, CannotHold}
-use Rattle.syntax.specs.Syntax.{VariableDeclaration, declare}
+use Rattle.syntax.specs.Syntax.{VariableDeclaration, declare, number_of}
 use Rattle.syntax.specs.Syntax.{globals_of, global_names}
 use Rattle.treerun.specs.TreeRun.{State, Outcome, value, returned, ended, bind_words}
 use Rattle.treerun.specs.TreeRun.{run_program, unbound}
-use Rattle.code.specs.Scheme.{program_code, function_entries, number_of, global_numbers, global_count}
+use Rattle.code.specs.Scheme.{program_code, function_entries, global_numbers, global_count}
 use Rattle.machine.specs.Machine.{Image, MachineState, Progress, over, proceed, run, armed}
 use Rattle.machine.proofs.Runs.{run-add}
 use Rattle.treerun.specs.Report.{report_at as state_report, report as tree_report}

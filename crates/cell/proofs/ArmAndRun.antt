@@ -4,11 +4,11 @@ use lib.ListN.{length-map}
 use Rattle.kinds.specs.Kinds.{Kind}
 use Rattle.script.specs.declared.refusal.Refusal.{Refusal}
 use Rattle.script.specs.declared.refusal.Refusal.TheVariants.{FuelOrDepth, TooFewWords, WrongState}
-use Rattle.syntax.specs.Syntax.{Program, globals_of}
+use Rattle.syntax.specs.Syntax.{Program, globals_of, number_of}
 use Rattle.syntax.specs.Typed.{program_of}
 use Rattle.names.specs.Need.{largest_need}
 use Rattle.names.specs.Names.{◌⨟◌}
-use Rattle.code.specs.Scheme.{number_of, global_numbers, global_count}
+use Rattle.code.specs.Scheme.{global_numbers, global_count}
 use Rattle.machine.specs.Machine.{Image, MachineState, Progress, running, undefined, step, proceed, run, armed}
 use Rattle.machine.specs.declared.outcome.Stop.TheVariants.{Over, Undefined}
 use Rattle.machine.specs.Steps.{Told, run_at_most, end_of}

@@ -140,6 +140,7 @@ abbrev pub counted : ℕ → ℕ
 counted n = min n (2 ^ 32 - 1)
 
 module _ {W : Type 0} where
+  -- The machine of a cell, on the words and over the bays that it is lent.
   abbrev pub machine_in : World W → MachineState W
   machine_in w = record {
     store = w.words;
@@ -231,7 +232,7 @@ with_state state s = with_machine state s.registers s.fuel s.steps s.end s
 
 -- ---- which calls are taken
 
--- The states in which each call is listed; a run and a stop only where a run is going on.
+-- A load is taken in every state but Running,
 abbrev pub loads : State → Bool
 loads Empty = true
 loads Loaded = true
@@ -239,6 +240,7 @@ loads Coded = true
 loads Running = false
 loads Over = true
 
+-- a compile in Loaded,
 abbrev pub compiles : State → Bool
 compiles Empty = false
 compiles Loaded = true
@@ -246,6 +248,7 @@ compiles Coded = false
 compiles Running = false
 compiles Over = false
 
+-- an arm in Coded and Over,
 abbrev pub arms : State → Bool
 arms Empty = false
 arms Loaded = false
@@ -253,6 +256,7 @@ arms Coded = true
 arms Running = false
 arms Over = true
 
+-- and a run and a stop where a run is going on.
 abbrev pub is_running : State → Bool
 is_running Empty = false
 is_running Loaded = false
@@ -333,6 +337,7 @@ module _ {W : Type 0} (kind : Kind W) (holds : W → Bool) where
       r.state
 
   -- At most so many steps of the run that is going on.
+  -- What a run of at most so many steps comes to.
   abbrev pub ran_of : ℕ → World W → Ran W
   ran_of steps w =
       let before = w.cell.registers in
@@ -364,6 +369,7 @@ world_after w (Ok f) = f.world
 world_after w (Err e) = w
 
 module _ {W : Type 0} (kind : Kind W) (holds : W → Bool) where
+  -- What a call is answered, and the cell, words and bays that it leaves.
   abbrev pub answer : World W → Call → Result Answer Refusal
   answer w c = answer_of (effect kind holds w.cell.state c w)
 
@@ -372,6 +378,7 @@ module _ {W : Type 0} (kind : Kind W) (holds : W → Bool) where
 
   -- ---- a list of calls, one after another
 
+  -- What calls leave that are made one after another, and how each of them is answered.
   abbrev pub outcomes : World W → List Call → World W
   outcomes w calls = fold outcome w calls
 

@@ -31,9 +31,11 @@ pub record Notes (W : Type 0) : Type 0 where
   pub armed : Option (Armed W)
 
 module _ {W : Type 0} where
+  -- Of no call there is nothing to note.
   abbrev pub nothing : Notes W
   nothing = record { loaded = []; coded = []; armed = None }
 
+  -- More steps granted to the run of the last arm, where there is one.
   abbrev pub grant : ℕ → Option (Armed W) → Option (Armed W)
   grant steps None = None
   grant steps (Some a) =

@@ -17,6 +17,7 @@ registers_in m = record {
   globals = m.globals;
 }
 
+-- What a cell of the code shows.
 abbrev pub shown : Cell → Shown
 shown c = record {
   state = c.state;

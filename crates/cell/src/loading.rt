@@ -39,6 +39,7 @@ impl Cell {
     {
         check_shape(table)?;
         self.table.clear();
+        // the room is reserved, so this cannot fail
         let _ = self.table.extend_from_slice(table);
         self.translation.clear();
         self.need = 0;

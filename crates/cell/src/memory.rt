@@ -20,7 +20,7 @@ pub struct Cell {
     // the fuel granted at the last arm, and the steps made since
     pub(crate) fuel: u32,
     pub(crate) steps: u32,
-    // how the last run ended; a stop or a load keeps it, so it is no part of the state
+    // how the last run ended: beside the state, since the five states are bare names, as they are asked for
     pub(crate) end: Option<RunEnd>,
     ghost room: { 1024 ≤ vec_capacity table },
     ghost accepted: { accepted_in state table.items ≡ true },

@@ -30,7 +30,8 @@ impl Cell {
         }
     }
 
-    // Any call, by the cell's state and the call together.
+    // Any call, by the cell's state and the call together, in one match as the rules have it. The five calls above are
+    // made alone, each over what it needs, and so test their own row.
     pub fn take<R: Rack>(
         &mut self,
         words: &mut [R::Word],

@@ -27,7 +27,8 @@ impl Cell {
         }
     }
 
-    // The fuel spent since the last arm, in Running and Over; outside a run there is nothing to tell: 0.
+    // The fuel spent since the last arm, in Running and Over. Outside a run there is nothing to tell, and no Option: the
+    // rules give the controller 0.
     pub fn ticks(&self) -> u32
         ensures { result ≡ ticks_told (shown self.now) }
     {
@@ -37,7 +38,7 @@ impl Cell {
         }
     }
 
-    // The instructions made since the last arm, in Running and Over; outside a run there is nothing to tell: 0.
+    // The instructions made since the last arm, in Running and Over; outside a run 0, as for the ticks.
     pub fn steps(&self) -> u32
         ensures { result ≡ steps_told (shown self.now) }
     {

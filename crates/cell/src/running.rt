@@ -38,7 +38,7 @@ impl Cell {
         ensures holds { R.Rack.holds rack.new ≡ R.Rack.holds rack.old }
         ensures loan { R.Rack.loan rack.new ≡ R.Rack.loan rack.old }
     {
-        // no conversion is plainer: a depth is at most 63
+        // the machine counts in `usize`; its depth is at most 63, so the cast loses nothing
         self.check_words(self.machine.depth as u32, words.len())?;
         let code = self.translation.program();
         let run = self.machine.run(words, rack, code, steps);

@@ -7,7 +7,7 @@ use Rattle.syntax.specs.Syntax.{VariableDeclaration, declare, Expression, consta
 use Rattle.syntax.specs.Syntax.{bay_read, bay_write}
 use Rattle.syntax.specs.Syntax.{Arguments, no_argument, argument, Statement, evaluate, if_else, while, give_back, block}
 use Rattle.syntax.specs.Syntax.{Statements, no_statement, then, Function, Program, bind_names, functions_of}
-use Rattle.syntax.specs.Syntax.{globals_of, global_names, locate}
+use Rattle.syntax.specs.Syntax.{globals_of, global_names, number_of, locate}
 use Rattle.names.specs.declared.signature.Signature.{Signature}
 use Rattle.names.specs.Names.{signature}
 use Rattle.code.specs.declared.instruction.Operation.{Operation}
@@ -139,10 +139,6 @@ program_code p =
 abbrev pub function_entries : Program → List FunctionEntry
 function_entries p =
     entries_from (global_names p) (signatures_of p) (functions_of p.declarations) (suc (length (main_code p)))
-
--- The first number of a variable.
-abbrev pub number_of : VariableDeclaration → ℤ
-number_of (declare a x v) = v
 
 -- The first numbers of a program's globals, in order.
 abbrev pub global_numbers : Program → List ℤ

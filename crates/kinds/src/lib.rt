@@ -9,6 +9,7 @@ mod tests;
 
 ghost use Rattle.std.specs.Prelude.{◌≡◌};
 ghost use Rattle.kinds.specs.Kinds.{Kind};
+ghost use Rattle.kinds.specs.Words.{truth_word};
 
 // A number kind is six functions of their operands alone: `kind` says which they are.
 pub trait NumberKind: Sized {
@@ -35,4 +36,11 @@ pub trait NumberKind: Sized {
     // The slot that the word names: 0 to 4,095, or none.
     fn slot(self) -> Option<usize>
         ensures { result ≡ kind.slot self };
+}
+
+// A test as a word: literal 1 where it holds, literal 0 where it does not.
+pub fn truth<W: NumberKind>(test: bool) -> W
+    ensures { result ≡ truth_word W.NumberKind.kind test }
+{
+    W::literal(i32::from(test))
 }

@@ -152,6 +152,7 @@ module _ {W : Type 0} where
 -- ---- the instruction table
 
 module _ {W : Type 0} (I : Image W) where
+  -- The word at an index of the store; literal 0 past its end, where no instruction that is defined reads.
   abbrev pub word_at : MachineState W → ℕ → W
   word_at m i = slice_index_or m.store i (zero_word I.kind)
 
@@ -198,10 +199,12 @@ module _ {W : Type 0} (I : Image W) where
       pop_one m.height (λ h. when (nat_le I.globals h)
       (over Done 0 (moved (slice_set m.store I.globals (word_at m h)) h m.pc m)))
 
+  -- The instruction at the program counter, if there is one.
   abbrev pub execute_at : Option Instruction → MachineState W → Progress W
   execute_at None m = undefined
   execute_at (Some i) m = execute i.operation i.place m
 
+  -- One step.
   abbrev pub step : MachineState W → Progress W
   step m = execute_at (slice_get I.code m.pc) m
 

@@ -1,6 +1,6 @@
 // Instructions on the words of the stack.
 ghost use Rattle.std.specs.Prelude.{◌≡◌, suc, ◌+◌, ◌-◌, ◌<◌, ◌≤◌, MatchResult, slice_index_or, slice_set};
-ghost use Rattle.kinds.specs.Words.{zero_word, truth_word};
+ghost use Rattle.kinds.specs.Words.{zero_word};
 ghost use Rattle.code.specs.declared.instruction.Operation.TheVariants.{GetL, SetL, Pop, Jz};
 ghost use Rattle.machine.specs.Machine.{execute, push, fetch_word, store_word, combine};
 ghost use Rattle.machine.specs.Steps.{MakesOnWords, MakesAlone, word_image};
@@ -9,13 +9,6 @@ use crate::outcome::{Step, Stop};
 use crate::state::Machine;
 use kinds::NumberKind;
 use stack::Stack;
-
-// A test as a word.
-pub(crate) fn truth<W: NumberKind>(test: bool) -> W
-    ensures { result ≡ truth_word W.NumberKind.kind test }
-{
-    W::literal(i32::from(test))
-}
 
 impl Machine {
     // The index of the top.

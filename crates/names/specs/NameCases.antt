@@ -13,10 +13,11 @@ Refused table n told = RefusedWith (table_rules table) n told
 abbrev pub Accepted : List Record → ℕ → Type 0
 Accepted table need = elim (table_rules table) [ Ok s ↦ s.need ≡ need | Err e ↦ ⊥ ]
 
--- A program of some declarations and its statement; a number as a statement.
+-- A program of some declarations and its statement.
 abbrev pub program : ℕ → List Record → List Record
 program declarations rest = node 27 declarations 0 ∷ rest
 
+-- A statement that does nothing: a number.
 abbrev pub idle : List Record
 idle = node 16 0 0 ∷ node 1 0 0 ∷ []
 

@@ -12,6 +12,7 @@ use Rattle.names.specs.declared.signature.Signature.{Signature}
 use Rattle.names.specs.Need.{largest_need}
 
 infixr 40 ◌⨟◌
+-- What a rule answers: it is met, or why it is not.
 abbrev pub Answer : Type 0
 Answer = Result (Unit {0}) Refusal
 
@@ -20,6 +21,7 @@ abbrev pub ◌⨟◌ : Answer → Answer → Answer
 Ok u ⨟ next = next
 Err e ⨟ next = Err e
 
+-- What a check finds of a function.
 abbrev pub signature : Function → Signature
 signature f = record { name = f.name; count = length f.parameters; place = f.place }
 
@@ -46,6 +48,7 @@ call_rule x (f ∷ fs) count place =
 
 -- Then all records in prefix order, under the global names; `own` are the names of the function, newest first.
 module _ (globals : List ℕ) where
+  -- Is a name one of the function's or of the globals'.
   abbrev pub declared : ℕ → List ℕ → Bool
   declared x own = is_some (locate x own) || is_some (locate x globals)
 
@@ -87,6 +90,7 @@ module _ (globals : List ℕ) where
       block_rules no_statement own = Ok tt
       block_rules (then s ss) own = statement_rules s own ⨟ block_rules ss own
 
+    -- The functions, one after another: parameters, then body.
     abbrev pub function_rules : List Function → Answer
     function_rules [] = Ok tt
     function_rules (f ∷ fs) =

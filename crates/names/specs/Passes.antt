@@ -21,7 +21,7 @@ use Rattle.names.specs.Need.{need_functions}
 use Rattle.names.specs.Names.{Answer, global_rules, function_rules, declared, call_rule, expression_rules}
 use Rattle.names.specs.Names.{argument_rules, local_rules, statement_rules, block_rules}
 
--- An answer to one who goes on with a value.
+-- The answer of a rule, with a value where the rule is met.
 abbrev pub outcome : {A : Type 0} → Answer → A → Result A Refusal
 outcome (Ok u) x = Ok x
 outcome (Err e) x = Err e

@@ -6,6 +6,7 @@ use Rattle.syntax.specs.Syntax.{Statements, no_statement, then, Function, Progra
 use Rattle.syntax.specs.Syntax.{function_named, functions_of, globals_of, global_names}
 use Rattle.names.specs.Need.{largest_need}
 
+-- A name is one of some names.
 abbrev pub Member : ℕ → List ℕ → Type 0
 Member x [] = ⊥
 Member x (y ∷ ys) = (x ≡ y) ⊎ Member x ys
@@ -69,6 +70,7 @@ module _ (globals : List ℕ) where
     ScopedFunctions (f ∷ fs) =
         (AllFresh f.parameters [] × ScopedStatement f.body (reverse f.parameters)) × ScopedFunctions fs
 
+-- The name of a function.
 abbrev pub function_name : Function → ℕ
 function_name f = f.name
 

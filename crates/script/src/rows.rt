@@ -5,7 +5,7 @@ ghost use Rattle.script.specs.Rows.{rows, row_of, unknown, amount, part_count, s
 use crate::record::Record;
 
 // What a record is. `Declaration` is only ever wanted: a variable declaration or a function suits it. `Unknown` is a sort
-// and no Option, since each of the 32 kinds has a row.
+// and no Option: trees are defined of any records, known or not, so every kind has a row with a sort and parts.
 #[derive(Clone, Copy, PartialEq, Eq, Debug)]
 pub enum Sort {
     Unknown,
@@ -75,6 +75,7 @@ impl Count {
         match self {
             Count::Fixed(n) => usize::from(n),
             Count::FieldA => usize::from(node.a),
+            // a negative number counts no parts: the bounds of a field that counts exclude it
             Count::FieldV => usize::try_from(node.v).unwrap_or(0),
         }
     }

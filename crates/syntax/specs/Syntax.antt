@@ -55,6 +55,10 @@ pub record Program : Type 0 where
 abbrev pub name_of : VariableDeclaration → ℕ
 name_of (declare a x v) = x
 
+-- The number with which it is declared, the variable's first.
+abbrev pub number_of : VariableDeclaration → ℤ
+number_of (declare a x v) = v
+
 -- The names of variables bound one after another on top of others, newest first.
 abbrev pub bind_names : List VariableDeclaration → List ℕ → List ℕ
 bind_names [] names = names

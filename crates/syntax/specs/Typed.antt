@@ -68,7 +68,8 @@ abbrev pub variables_in : Forest → List VariableDeclaration
 variables_in none = []
 variables_in (more t ts) = variable_of t ∷ variables_in ts
 
--- A statement, from its parts read as expressions, as declarations and as statements.
+-- A statement, from its parts: all of them are read as expressions, all as declarations and all as statements, and each
+-- node takes those that its parts are. So `drop_statements 1` goes past a test.
 abbrev pub make_statement :
     NodeKind → ℕ → Record → Arguments → List VariableDeclaration → Statements → Statement
 make_statement is.ExpressionStatement p r es ds ss = evaluate p (first es)

@@ -1,6 +1,6 @@
 -- The code of functions and of a program, put down piece by piece, with the entries and the numbers of the globals.
 use Rattle.std.proofs.Common.{◌≡◌, ℕ, suc, ◌+◌, List, [], ◌∷◌, ◌++◌, map, reverse, length, ℤ, pos, refl, ap, ◌∙◌, append_assoc, arith, length-append}
-use Rattle.syntax.specs.Syntax.{declare, Statement, Function, Declaration, of_a_variable, of_a_function, Program}
+use Rattle.syntax.specs.Syntax.{declare, Statement, Function, Declaration, of_a_variable, of_a_function, Program, number_of}
 use Rattle.syntax.specs.Syntax.{variables_of, functions_of, global_names, globals_of, name_of}
 use Rattle.syntax.proofs.Statements.{bound}
 use Rattle.names.specs.declared.signature.Signature.{Signature}
@@ -8,7 +8,7 @@ use Rattle.names.specs.Names.{signature}
 use Rattle.code.specs.declared.instruction.Operation.TheVariants.{Lit, Pop, Ret, Halt}
 use Rattle.code.specs.declared.instruction.Instruction.{Instruction}
 use Rattle.code.specs.declared.instruction.FunctionEntry.{FunctionEntry}
-use Rattle.code.specs.Scheme.{op, statement_code, function_code, functions_code, entries_from, number_of, program_code}
+use Rattle.code.specs.Scheme.{op, statement_code, function_code, functions_code, entries_from, program_code}
 use Rattle.code.specs.Scheme.{function_entries, global_numbers}
 use Rattle.translator.specs.Records.{entry_of}
 use Rattle.translator.specs.Translations.{Held, translation_of}

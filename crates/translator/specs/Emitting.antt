@@ -3,7 +3,7 @@ use Rattle.std.specs.Prelude.{◌≡◌, ℕ, ℤ, ◌+◌, ◌*◌, ◌<◌, �
 use Rattle.stack.specs.Store.{contents, capacity}
 use Rattle.script.specs.declared.record.Record.{Record}
 use Rattle.script.specs.Rows.{node_of}
-use Rattle.syntax.specs.Syntax.{variables_of, functions_of}
+use Rattle.syntax.specs.Syntax.{variables_of, functions_of, number_of}
 use Rattle.syntax.specs.Trees.{tree_at, pieces, size, sizes}
 use Rattle.syntax.specs.Typed.{expression_at, arguments_at, statement_at, statements_at, declarations_at, function_of}
 use Rattle.code.specs.declared.instruction.Operation.{Operation}
@@ -11,7 +11,7 @@ use Rattle.code.specs.declared.instruction.Operation.TheVariants.{Pop}
 use Rattle.code.specs.declared.instruction.Instruction.{Instruction}
 use Rattle.code.specs.declared.instruction.FunctionEntry.{FunctionEntry}
 use Rattle.code.specs.Scheme.{expression_code, arguments_code, statement_code, block_code, function_code}
-use Rattle.code.specs.Scheme.{functions_code, entries_from, number_of}
+use Rattle.code.specs.Scheme.{functions_code, entries_from}
 use Rattle.translator.specs.Records.{record_operation}
 use Rattle.translator.specs.declared.emitter.Emitter.{Emitter}
 

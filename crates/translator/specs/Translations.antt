@@ -17,6 +17,7 @@ pub record Held : Type 0 where
   pub entries : List FunctionEntry
   pub globals : List ℤ
 
+-- What a translation of the code holds, as lists.
 abbrev pub held : Translation → Held
 held t = record {
   code = vec_items t.code;
@@ -24,6 +25,7 @@ held t = record {
   globals = vec_items t.globals;
 }
 
+-- What one holds that no table was given to.
 abbrev pub nothing_held : Held
 nothing_held = record { code = []; entries = []; globals = [] }
 

@@ -3,11 +3,10 @@ use Rattle.std.proofs.Common.{◌≡◌, ℕ, suc, ◌+◌, ◌-◌, ◌≤◌, 
 use mathlib.Core.List.{reverse-cons}
 use lib.Seq.{drop-append_seam}
 use Rattle.kinds.specs.Kinds.{Kind}
-use Rattle.syntax.specs.Syntax.{VariableDeclaration, declare, bind_names, name_of}
+use Rattle.syntax.specs.Syntax.{VariableDeclaration, declare, bind_names, name_of, number_of}
 use Rattle.treerun.specs.TreeRun.{Setting, State, store, bind_words, oldest, drop_to, bind_variables, bind_parameters}
 use Rattle.treerun.specs.TreeRun.{setting_of}
 use Rattle.treerun.specs.Laws.{SameBindings, OldestBindings, PartsKeep, PartsKeepBindings}
-use Rattle.treerun.specs.Lent.{number_of}
 use Rattle.treerun.proofs.Keeps.{Steps, expression-run-keeps, arguments-run-keeps, statement-run-keeps}
 use Rattle.treerun.proofs.Keeps.{statements-run-keeps}
 

@@ -6,11 +6,11 @@ use lib.ListN.{length-map}
 use lib.Seq.{take-append_seam, drop-append-add, get_or-append_seam, set-append_seam}
 use Rattle.std.proofs.lemmas.List.{length-reverse, reverse-reverse}
 use Rattle.kinds.specs.Kinds.{Kind}
-use Rattle.syntax.specs.Syntax.{VariableDeclaration, bind_names, name_of, Program, globals_of, locate}
+use Rattle.syntax.specs.Syntax.{VariableDeclaration, bind_names, name_of, Program, globals_of, locate, number_of}
 use Rattle.treerun.specs.TreeRun.{Setting, State, look_up, store, with_words, bind_words, drop_to, bind_variables}
 use Rattle.treerun.specs.TreeRun.{bind_parameters, setting_of, run_program}
 use Rattle.treerun.specs.Laws.{state_left}
-use Rattle.treerun.specs.Lent.{lent_names, lent_words, written_from, number_of, LentListsHold}
+use Rattle.treerun.specs.Lent.{lent_names, lent_words, written_from, LentListsHold}
 use Rattle.treerun.proofs.Keeps.{Steps, main-keeps}
 use Rattle.treerun.proofs.Bindings.{bound-names, words_of, bound-words, length-names, length-bound, length-store}
 

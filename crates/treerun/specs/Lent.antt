@@ -1,8 +1,8 @@
 -- The lists lent for the bindings, as a state leaves them: what binding, dropping, reading and assigning do.
-use Rattle.std.specs.Prelude.{◌≡◌, ℕ, ◌+◌, ◌≤◌, Bool, List, ◌++◌, map, reverse, length, take, drop, ℤ, Some, slice_index_or, slice_set}
+use Rattle.std.specs.Prelude.{◌≡◌, ℕ, ◌+◌, ◌≤◌, Bool, List, ◌++◌, map, reverse, length, take, drop, Some, slice_index_or, slice_set}
 use mathlib.Core.List.{reverse_aux}
 use Rattle.kinds.specs.Kinds.{Kind}
-use Rattle.syntax.specs.Syntax.{VariableDeclaration, declare, Program, name_of, locate}
+use Rattle.syntax.specs.Syntax.{VariableDeclaration, Program, name_of, number_of, locate}
 use Rattle.treerun.specs.TreeRun.{State, look_up, store, with_words, drop_to, bind_variables, bind_parameters, run_program}
 use Rattle.treerun.specs.Laws.{state_left}
 
@@ -17,10 +17,6 @@ module _ {W : Type 0} where
 -- A list with others written over its own from an index on.
 abbrev pub written_from : {A : Type 0} → ℕ → List A → List A → List A
 written_from n ys xs = take n xs ++ (ys ++ drop (n + length ys) xs)
-
--- The number with which a variable is declared.
-abbrev pub number_of : VariableDeclaration → ℤ
-number_of (declare a x v) = v
 
 module _ {W : Type 0} (kind : Kind W) where
   pub record LentListsHold : Type 0 where

@@ -76,6 +76,7 @@ abbrev pub left_behind : {A : Type 0} → ℕ → List A → List A → List A
 left_behind n xs past = reverse_aux (take (length xs - n) xs) past
 
 module _ {W : Type 0} where
+  -- A state with other words, with other bays, or with other fuel.
   abbrev pub with_words : List W → State W → State W
   with_words ws σ = record {
     names = σ.names;
@@ -148,6 +149,7 @@ module _ {W : Type 0} where
   and_then (returned w σ) next = returned w σ
   and_then (ended e a σ) next = ended e a σ
 
+  -- One of two runs, by a test.
   abbrev pub branch : {A : Type 0} → Bool → State W → (State W → Outcome W A) → (State W → Outcome W A) → Outcome W A
   branch true σ yes' no' = yes' σ
   branch false σ yes' no' = no' σ
@@ -192,6 +194,7 @@ module _ {W : Type 0} (S : Setting W) (deep : ℕ → Statement → State W → 
       leave_call (zero_word S.kind) σ (deep (suc calls) f.body (bind_parameters f.parameters ws σ))))
 
   unfoldable mutual
+    -- An expression comes to its word.
     pub run_expression : Expression → ℕ → State W → Outcome W W
     run_expression (constant a v) calls σ = value (S.kind.literal v) σ
     run_expression (variable a x) calls σ = value (look_up (zero_word S.kind) x σ.names σ.words) σ
@@ -215,6 +218,7 @@ module _ {W : Type 0} (S : Setting W) (deep : ℕ → Statement → State W → 
         and_then (run_expression e calls σ) (λ w σ. run_arguments es calls (w ∷ ws) σ)
 
   unfoldable mutual
+    -- A statement comes to its word; a return leaves the innermost call.
     pub run_statement : Statement → ℕ → State W → Outcome W W
     run_statement (evaluate a e) calls σ = run_expression e calls σ
     run_statement (if_else a e s t) calls σ =
@@ -228,6 +232,7 @@ module _ {W : Type 0} (S : Setting W) (deep : ℕ → Statement → State W → 
     run_statement (block a ds ss) calls σ =
         leave_block (zero_word S.kind) σ (run_statements ss calls (bind_variables S.kind ds σ))
 
+    -- Statements run one after another.
     pub run_statements : Statements → ℕ → State W → Outcome W W
     run_statements no_statement calls σ = value (zero_word S.kind) σ
     run_statements (then s ss) calls σ = and_then (run_statement s calls σ) (λ w σ. run_statements ss calls σ)
@@ -255,6 +260,7 @@ unbound names words bays fuel = record {
   fuel = fuel;
 }
 
+-- The setting of a program's run.
 abbrev pub setting_of : {W : Type 0} → Kind W → (W → Bool) → Program → ℕ → Setting W
 setting_of kind holds p depth = record { kind = kind; holds = holds; functions = functions_of p.declarations; depth = depth }
 

@@ -95,6 +95,7 @@ pub record Ran {A B : Type 0} (run : Outcome ℤ A) (r : Result B Stop) (means :
   pub kept : Kept r before after
   pub ends : Ends r next end
 
+-- The word of a part that was walked, and the index after its records.
 abbrev pub word_of : Valued → ℤ
 word_of v = v.word
 
@@ -109,11 +110,12 @@ RanPart run r end before after = Ran run r word_of next_of end before after
 abbrev pub RanParts : {A : Type 0} → Outcome ℤ A → Result ℕ Stop → A → ℕ → Lent → Lent → Type 0
 RanParts run r a end before after = Ran run r (λ n. a) (λ n. n) end before after
 
--- What a bay answers, at a place, and the bays as they then are.
+-- What a bay answers, at a place.
 abbrev pub answer_at : ℕ → BayAnswer ℤ → Result ℤ Stop
 answer_at place (gives w bays) = Ok w
 answer_at place (fails e) = Err (ended_at e place)
 
+-- The bays as they then are.
 abbrev pub bays_after : List ℤ → BayAnswer ℤ → List ℤ
 bays_after before (gives w bays) = bays
 bays_after before (fails e) = before

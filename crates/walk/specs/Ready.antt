@@ -1,11 +1,11 @@
 -- When a part of a table can be walked: the table was accepted, the part stands there, and the slices have room for it.
-use Rattle.std.specs.Prelude.{◌≡◌, ℕ, ◌+◌, ◌-◌, ◌*◌, ◌<◌, ◌≤◌, List, length, replicate, Some, None, Option, slice_index_or}
+use Rattle.std.specs.Prelude.{◌≡◌, ℕ, ◌+◌, ◌-◌, ◌*◌, ◌<◌, ◌≤◌, List, length, replicate, Some, None, Option}
 use Rattle.script.specs.declared.record.Record.{Record}
 use Rattle.script.specs.declared.rows.NodeKind.{NodeKind}
 use Rattle.script.specs.declared.rows.NodeKind.TheVariants.{Function as FunctionKind}
 use Rattle.script.specs.declared.rows.Sort.TheVariants.{Expression as ExpressionSort, Statement as StatementSort, Declaration as DeclarationSort, Program as ProgramSort}
 use Rattle.syntax.specs.Syntax.{Function, functions_of, global_names}
-use Rattle.syntax.specs.Trees.{no_record, tree_at, pieces, sizes, Sound, Sounds, Part}
+use Rattle.syntax.specs.Trees.{tree_at, pieces, Sound, Sounds, Part}
 use Rattle.syntax.specs.Typed.{program_of, expression_at, arguments_at, statement_at, statements_at, function_of, node_at}
 use Rattle.names.specs.Need.{need_expression, need_arguments, need_statement, need_statements, largest_need}
 use Rattle.names.specs.Scoped.{ScopedExpression, ScopedArguments, ScopedStatement, ScopedStatements, WellNamed}
@@ -24,10 +24,6 @@ functions_in table = functions_of (program_of table).declarations
 
 abbrev pub globals_in : List Record → List ℕ
 globals_in table = global_names (program_of table)
-
--- The index of a table's main statement, which stands after the declarations.
-abbrev pub main_index : List Record → ℕ
-main_index table = 1 + sizes (pieces table 1 (slice_index_or table 0 no_record).a)
 
 -- The largest frame need of a table.
 abbrev pub need_in : List Record → ℕ
@@ -79,6 +75,7 @@ pub record Located (table : List Record) (found : Option Function) (at : ℕ) : 
   pub kind : Is FunctionKind table at
   pub is : found ≡ Some (function_of (tree_at table at))
 
+-- What a search for a function answers: none where there is none, or the record of the one found.
 abbrev pub Finds : List Record → Option Function → Option ℕ → Type 0
 Finds table found None = found ≡ None
 Finds table found (Some at) = Located table found at

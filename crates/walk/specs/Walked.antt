@@ -46,6 +46,7 @@ told granted (returned w σ) = record { end = done; answer = Some w; ticks = gra
 told granted (ended e place σ) =
     record { end = record { ending = e; place = place }; answer = None; ticks = granted - σ.fuel }
 
+-- What a walk answers, and what the two slices and the bays hold afterwards.
 pub record Walked : Type 0 where
   pub answer : Result Report Refusal
   pub names : List ℕ
@@ -66,6 +67,7 @@ abbrev pub walked_if : Answer → List ℕ → List ℤ → List ℤ → ℕ →
 walked_if (Ok u) names words bays fuel o = walked_by fuel o
 walked_if (Err e) names words bays fuel o = leaves (Err e) names words bays
 
+-- The walk of a table over two slices and bays, with a fuel and a depth.
 abbrev pub walked : List Record → List ℕ → List ℤ → List ℤ → ℕ → ℕ → Walked
 walked table names words bays fuel depth =
     walked_if (walk_rules table (length names) (length words) fuel depth) names words bays fuel

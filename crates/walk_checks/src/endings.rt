@@ -38,14 +38,12 @@ fn check(rt: &impl Abort, table: &[Record], bays: usize, limits: Limits, wanted:
     let mut rack = BayTable::new(bays);
     let answer = walk(table, &mut names, &mut words, &mut rack, limits);
     assert_eq!(rt; answer, Ok(wanted.report()));
-    for i in 0..3 {
-        assert_eq!(rt; names[i], wanted.names[i]);
-        assert_eq!(rt; words[i], wanted.words[i]);
-        assert_eq!(rt; rack.read(i), wanted.bays[i]);
-    }
-    for i in 3..10 {
-        assert_eq!(rt; names[i], 9);
-        assert_eq!(rt; words[i], 9);
+    assert_eq!(rt; &names[..3], wanted.names.as_slice());
+    assert_eq!(rt; &words[..3], wanted.words.as_slice());
+    let rest = (&names[3..], &words[3..]);
+    assert!(rt; rest.0.iter().all(|n| *n == 9) && rest.1.iter().all(|w| *w == 9));
+    for (slot, bay) in wanted.bays.iter().enumerate() {
+        assert_eq!(rt; rack.read(slot), *bay);
     }
 }
 

@@ -45,7 +45,7 @@ impl Translation {
     }
 
     // Writes the code of a whole program, whose statement is at `main`: four instructions a record suffice. Each name in
-    // scope has a record of its own, so there is room for all.
+    // scope has a record of its own, so there is room for all; an array, since no call but `new` allocates.
     fn fill(&mut self, context: Context<'_>, main: usize)
         requires after { main ≡ main_at context.table.records.now }
         requires variables { context.globals.now
