@@ -2,10 +2,9 @@ use Rattle.std.proofs.Common.{◌≡◌, ℕ, ◌+◌, ◌-◌, List, [], ◌∷
 use Rattle.stack.specs.Store.{contents}
 use Rattle.stack.proofs.Contents.{length-contents, contents-cut}
 use Rattle.syntax.specs.Syntax.{VariableDeclaration, name_of}
-use Rattle.syntax.specs.Trees.{no_record}
 use Rattle.syntax.specs.Typed.{expression_at, statement_at, statements_at, variables_at}
 use Rattle.syntax.proofs.Expressions.{firsts}
-use Rattle.syntax.proofs.Statements.{blocked, bound}
+use Rattle.syntax.proofs.Statements.{bound}
 use Rattle.syntax.proofs.Shapes.{simple-kind, simple-at, return-at, chosen, looped}
 use Rattle.names.proofs.Scopes.{dropped}
 use Rattle.code.specs.declared.instruction.Operation.{Operation}
