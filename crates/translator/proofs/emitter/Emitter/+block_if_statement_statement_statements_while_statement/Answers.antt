@@ -1,11 +1,10 @@
-use Rattle.std.proofs.Common.{◌≡◌, ℕ, ◌+◌, ◌-◌, List, [], ◌∷◌, map, reverse, length, vec_items, vec_len, sym, refl, ap, ◌∙◌, arith, rules}
+use Rattle.std.proofs.Common.{◌≡◌, ℕ, ◌+◌, ◌-◌, ◌≤◌, List, [], ◌∷◌, map, reverse, length, vec_items, vec_len, vec_capacity, sym, refl, ap, ◌∙◌, arith, rules}
 use Rattle.stack.specs.Store.{contents}
 use Rattle.stack.proofs.Contents.{length-contents, contents-cut}
 use Rattle.syntax.specs.Syntax.{VariableDeclaration, name_of}
-use Rattle.syntax.specs.Trees.{no_record}
 use Rattle.syntax.specs.Typed.{expression_at, statement_at, statements_at, variables_at}
 use Rattle.syntax.proofs.Expressions.{firsts}
-use Rattle.syntax.proofs.Statements.{blocked, bound}
+use Rattle.syntax.proofs.Statements.{bound}
 use Rattle.syntax.proofs.Shapes.{simple-kind, simple-at, return-at, chosen, looped}
 use Rattle.names.proofs.Scopes.{dropped}
 use Rattle.code.specs.declared.instruction.Operation.{Operation}
@@ -19,6 +18,7 @@ use Rattle.translator.proofs.Emitters.{same_loans, kept, same_table, expression-
 use Rattle.translator.proofs.Steps.{ready, several-ready, halfway, tested, locals, inside}
 use Rattle.names.proofs.Standing.{block-parts}
 use Rattle.translator.proofs.emitter.Emitter.+block_if_statement_statement_statements_while_statement.Goals as goal
+use Rattle.translator.proofs.emitter.Emitter.+block_if_statement_statement_statements_while_statement.Goals.{while_statement-After-statement-next}
 
 pub if_statement-expression-first-requires : goal.if_statement-expression-first-requires
 if_statement-expression-first-requires t c =
@@ -109,8 +109,10 @@ while_statement-statement-next-requires t c =
       ready h.keeps.loans c.requires.room (omega (arith, h.keeps.height)) h.shape.body_within h.shape.body (omega (arith, h.shape.whole, h.shape.some, h.len)),
     )
 
-pub while_statement-append-requires-3 : goal.while_statement-append-requires-3
-while_statement-append-requires-3 t c =
+-- After the body of a while there is room for three instructions more.
+ended : (t : ℕ) (c : while_statement-After-statement-next t) →
+    vec_len c.statement-next.new.self.code.now + 3 ≤ vec_capacity c.statement-next.new.self.code.now
+ended t c =
     let h = tested c.requires.part c.requires.kind c.append.ensures.keeps c.append.ensures.len c.expression-body.ensures.next
     c.expression-body.ensures.len c.expression-body.ensures.keeps c.append-2.ensures.keeps in
     let b = rw (same_table _ _ h.keeps.loans) at c.statement-next.ensures.bound in
@@ -123,36 +125,18 @@ while_statement-append-requires-3 t c =
       h.keeps.loans.code_capacity,
       c.statement-next.ensures.keeps.loans.code_capacity,
     )
+
+pub while_statement-append-requires-3 : goal.while_statement-append-requires-3
+while_statement-append-requires-3 t c =
+    omega (arith, ended t (goal.at.while_statement-append-requires-3 t c).After-statement-next)
 
 pub while_statement-append-requires-4 : goal.while_statement-append-requires-4
 while_statement-append-requires-4 t c =
-    let h = tested c.requires.part c.requires.kind c.append.ensures.keeps c.append.ensures.len c.expression-body.ensures.next
-    c.expression-body.ensures.len c.expression-body.ensures.keeps c.append-2.ensures.keeps in
-    let b = rw (same_table _ _ h.keeps.loans) at c.statement-next.ensures.bound in
-    omega (
-      arith,
-      h.shape.whole,
-      h.shape.some,
-      h.len,
-      c.requires.room.code,
-      h.keeps.loans.code_capacity,
-      c.statement-next.ensures.keeps.loans.code_capacity,
-    )
+    omega (arith, ended t (goal.at.while_statement-append-requires-4 t c).After-statement-next)
 
 pub while_statement-append-requires-5 : goal.while_statement-append-requires-5
 while_statement-append-requires-5 t c =
-    let h = tested c.requires.part c.requires.kind c.append.ensures.keeps c.append.ensures.len c.expression-body.ensures.next
-    c.expression-body.ensures.len c.expression-body.ensures.keeps c.append-2.ensures.keeps in
-    let b = rw (same_table _ _ h.keeps.loans) at c.statement-next.ensures.bound in
-    omega (
-      arith,
-      h.shape.whole,
-      h.shape.some,
-      h.len,
-      c.requires.room.code,
-      h.keeps.loans.code_capacity,
-      c.statement-next.ensures.keeps.loans.code_capacity,
-    )
+    omega (arith, ended t (goal.at.while_statement-append-requires-5 t c).After-statement-next)
 
 pub while_statement-returns : goal.while_statement-returns
 while_statement-returns t c =

@@ -1,4 +1,4 @@
-use Rattle.std.proofs.Common.{◌≡◌, ℕ, List, [], length, get_or, take, vec_items, vec_len, refl, ap, arith}
+use Rattle.std.proofs.Common.{◌≡◌, ℕ, List, [], length, get_or, take, vec_items, vec_len, ap, arith}
 use Rattle.stack.specs.Store.{contents}
 use Rattle.script.specs.declared.record.Record.{Record}
 use Rattle.syntax.specs.Trees.{no_record}
