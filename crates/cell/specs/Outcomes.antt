@@ -1,5 +1,5 @@
 -- What each call on a cell answers and leaves, by the cell's state and the call together, and so a list of calls.
-use Rattle.std.specs.Prelude.{ℕ, ◌+◌, ◌-◌, ◌*◌, ◌^◌, min, Bool, true, false, List, [], ◌∷◌, ◌++◌, map, length, drop, ℤ, Some, None, Ok, Err, fold, Option, Result, nat_le}
+use Rattle.std.specs.Prelude.{ℕ, ◌+◌, ◌-◌, ◌^◌, min, Bool, true, false, List, [], ◌∷◌, ◌++◌, map, length, drop, ℤ, Some, None, Ok, Err, fold, Option, Result, nat_le}
 use Rattle.kinds.specs.Kinds.{Kind}
 use Rattle.script.specs.declared.record.Record.{Record}
 use Rattle.script.specs.declared.refusal.Refusal.{Refusal}

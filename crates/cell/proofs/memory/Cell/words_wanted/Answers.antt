@@ -1,5 +1,5 @@
 -- The globals are in memory, so they are fewer than 2 ^ 63, and the number is an index.
-use Rattle.std.proofs.Common.{◌+◌, ◌*◌, ◌^◌, ◌<◌, ◌≤◌, mul-le-mul, arith}
+use Rattle.std.proofs.Common.{◌+◌, ◌*◌, ◌^◌, ◌≤◌, mul-le-mul, arith}
 use Rattle.cell.proofs.memory.Cell.words_wanted.Goals as goal
 
 pub returns : goal.returns
