@@ -49,7 +49,8 @@ fn names_and_frame(rt: HostRuntime) {
     check_table(&rt, &tables::large_frame(), Refusal::FrameNeed);
 }
 
-// The end-bay table wants 1 + 2 × 3 words at depth 1. A table is tested before the limits, and the limits before the slices.
+// The end-bay table wants 1 + 2 × 3 words at depth 1. A table is tested before the limits, and the limits before the
+// slices.
 #[test]
 fn limits_and_slices(rt: HostRuntime) {
     let fuel = Limits {
