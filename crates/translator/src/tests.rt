@@ -1,5 +1,5 @@
 use crate::Translation;
-use code::instruction::{Instruction, Operation};
+use code::instruction::{FunctionEntry, Instruction, Operation};
 use script::Record;
 use std::test::Fail;
 
@@ -25,45 +25,58 @@ const EVERY_KIND: &[Record; 31] = &[
     Record { kind: 9, a: 0, v: 0 }, Record { kind: 1, a: 0, v: 0 }, Record { kind: 1, a: 0, v: 1 },
 ];
 
-// The operations of its code, by their numbers, and their places.
+// Its code, worked out from the scheme by hand.
 #[rattlefmt::skip]
-const OPERATIONS: &[u8; 36] = &[
-    11, 0, 3, 0, 5, 12, 7, 9, 0, 0, 15, 8, 10, 0, 16,
-    0, 1, 14, 2, 8, 1, 3, 7, 9, 1, 0, 6, 13, 10, 0, 8, 8, 0, 8, 0, 13,
+const CODE: &[Instruction; 36] = &[
+    Instruction { operation: Operation::Tick, place: 20 },
+    Instruction { operation: Operation::Lit(3), place: 22 },
+    Instruction { operation: Operation::GetG(0), place: 25 },
+    Instruction { operation: Operation::Lit(2), place: 26 },
+    Instruction { operation: Operation::Add, place: 24 },
+    Instruction { operation: Operation::Call(0), place: 23 },
+    Instruction { operation: Operation::Gt, place: 21 },
+    Instruction { operation: Operation::Jz(13), place: 20 },
+    Instruction { operation: Operation::Lit(0), place: 29 },
+    Instruction { operation: Operation::Lit(1), place: 30 },
+    Instruction { operation: Operation::BayW, place: 28 },
+    Instruction { operation: Operation::Pop, place: 20 },
+    Instruction { operation: Operation::Jmp(0), place: 20 },
+    Instruction { operation: Operation::Lit(0), place: 20 },
+    Instruction { operation: Operation::Halt, place: 0 },
+    Instruction { operation: Operation::Lit(4), place: 4 },
+    Instruction { operation: Operation::GetL(0), place: 9 },
+    Instruction { operation: Operation::BayR, place: 8 },
+    Instruction { operation: Operation::SetL(1), place: 7 },
+    Instruction { operation: Operation::Pop, place: 4 },
+    Instruction { operation: Operation::GetL(1), place: 12 },
+    Instruction { operation: Operation::GetG(0), place: 13 },
+    Instruction { operation: Operation::Gt, place: 11 },
+    Instruction { operation: Operation::Jz(29), place: 10 },
+    Instruction { operation: Operation::GetL(1), place: 16 },
+    Instruction { operation: Operation::Lit(1), place: 17 },
+    Instruction { operation: Operation::Sub, place: 15 },
+    Instruction { operation: Operation::Ret, place: 14 },
+    Instruction { operation: Operation::Jmp(30), place: 10 },
+    Instruction { operation: Operation::Lit(0), place: 19 },
+    Instruction { operation: Operation::Pop, place: 4 },
+    Instruction { operation: Operation::Pop, place: 4 },
+    Instruction { operation: Operation::Lit(0), place: 4 },
+    Instruction { operation: Operation::Pop, place: 2 },
+    Instruction { operation: Operation::Lit(0), place: 2 },
+    Instruction { operation: Operation::Ret, place: 2 },
 ];
-
-#[rattlefmt::skip]
-const PLACES: &[u8; 36] = &[
-    20, 22, 25, 26, 24, 23, 21, 20, 29, 30, 28, 20, 20, 20, 0,
-    4, 9, 8, 7, 4, 12, 13, 11, 10, 16, 17, 15, 14, 10, 19, 4, 4, 4, 2, 2, 2,
-];
-
-fn is_its_code(code: &[Instruction]) -> bool {
-    let expected = OPERATIONS.iter().zip(PLACES);
-    code.len() == OPERATIONS.len()
-        && code.iter().zip(expected).all(|(instruction, (number, place))| {
-            instruction.operation.number() == *number && instruction.place == usize::from(*place)
-        })
-}
-
-// Where the jump at `at` goes.
-fn target(code: &[Instruction], at: usize) -> Option<usize> {
-    match code.get(at)?.operation {
-        Operation::Jz(to) | Operation::Jmp(to) => Some(to),
-        _ => None,
-    }
-}
 
 #[test]
 fn every_kind_is_translated(rt: HostRuntime) -> Result<(), Fail> {
     let mut translation = Translation::new(rt.alloc())?;
     assert!(rt; translation.translate(EVERY_KIND).is_ok());
-    let code = translation.code();
-    assert!(rt; is_its_code(code));
-    assert!(rt; target(code, 7) == Some(13) && target(code, 12) == Some(0));
-    assert!(rt; target(code, 23) == Some(29) && target(code, 28) == Some(30));
-    assert!(rt; translation.entries().len() == 1 && translation.entries()[0].start == 15);
-    assert!(rt; translation.globals().len() == 1 && translation.globals()[0] == 5);
+    let function = FunctionEntry {
+        start: 15,
+        parameters: 1,
+    };
+    assert_eq!(rt; translation.code(), CODE.as_slice());
+    assert_eq!(rt; translation.entries(), [function].as_slice());
+    assert_eq!(rt; translation.globals(), [5].as_slice());
     Ok(())
 }
 
@@ -72,7 +85,7 @@ fn a_refusal_writes_nothing(rt: HostRuntime) -> Result<(), Fail> {
     let mut translation = Translation::new(rt.alloc())?;
     assert!(rt; translation.translate(EVERY_KIND).is_ok());
     assert!(rt; translation.translate(&[]).is_err());
-    assert!(rt; is_its_code(translation.code()));
+    assert_eq!(rt; translation.code(), CODE.as_slice());
     translation.clear();
     assert!(rt; translation.code().is_empty() && translation.entries().is_empty());
     Ok(())

@@ -1,4 +1,5 @@
-// Bindings on top of those that stand, over what dropped ones have left there.
+// Bindings on top of those that stand, over what dropped ones have left there. Room is asked of each slice by itself: a
+// record of both clauses would be put together again by each caller, for no fewer words.
 ghost use Rattle.std.specs.Prelude.{◌≡◌, ◌+◌, ◌<◌, ◌≤◌, map, reverse, length};
 ghost use Rattle.kinds.specs.Counter.{counter};
 ghost use Rattle.syntax.specs.Syntax.{name_of};
