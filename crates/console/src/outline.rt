@@ -1,4 +1,7 @@
 // The outline of a table of accepted shape: one line a record, indented by nesting.
+ghost use Rattle.console.specs.Nesting.{IsWaiting};
+ghost use Rattle.std.specs.Prelude.{◌≡◌, OnOk, vec_len};
+
 use crate::wording::Described;
 use script::Record;
 use script::rows::part_count;
@@ -18,12 +21,16 @@ impl Nesting {
         }
     }
 
-    pub fn depth(&self) -> usize {
+    pub fn depth(&self) -> usize
+        ensures { result ≡ vec_len self.now.wanted }
+    {
         self.wanted.len()
     }
 
-    // The next record takes the place of a part, and its own parts come next.
-    pub fn enter(&mut self, record: Record) -> Result<(), AllocError> {
+    // The next record takes the place of a part, and its own parts come next. Records that want none more are dropped.
+    pub fn enter(&mut self, record: Record) -> Result<(), AllocError>
+        ensures { OnOk result (IsWaiting self.new.wanted.items) }
+    {
         if let Some(wanted) = self.wanted.last_mut() {
             *wanted = wanted.saturating_sub(1);
         }
