@@ -117,3 +117,18 @@ fn refused_arms(rt: HostRuntime) -> Result<(), AllocError> {
     assert_eq!(rt; (cell.state(), words), (State::Coded, [9; 7]));
     Ok(())
 }
+
+#[test]
+fn refused_run(rt: HostRuntime) -> Result<(), AllocError> {
+    let mut words = [9; 7];
+    let mut rack = BayTable::new(3);
+    let mut cell = cell_after(&rt, rt.alloc(), 3, &mut words, &mut rack)?;
+    let lent = words;
+    let answer = cell.run(&mut words[..6], &mut rack, 1);
+    assert_eq!(rt; answer, Err(Refusal::TooFewWords(7)));
+    assert_eq!(rt;
+        (cell.state(), cell.steps(), words),
+        (State::Running, 0, lent)
+    );
+    Ok(())
+}
