@@ -22,6 +22,7 @@ use Rattle.syntax.specs.Typed.{first_statement, drop_statements, make_declaratio
 use Rattle.syntax.specs.Listing.{rec, operator_kind, list_expression, list_arguments, list_variables, list_statement, list_statements}
 use Rattle.syntax.specs.Listing.{statement_count, list_parameters, list_declaration, list_declarations, listing, InBounds, Lists}
 use Rattle.syntax.proofs.NodeKinds.{row_for, row_is, fits, suited, by-expression, by-statement, by-declaration, only-variable, only-parameter, only-program}
+use Rattle.syntax.proofs.Forests.{no-tree}
 use Rattle.syntax.proofs.Expressions as expressions
 use Rattle.syntax.proofs.Expressions.{parts_of}
 use Rattle.syntax.proofs.Statements as statements
@@ -195,14 +196,10 @@ lists-leaf w k only u f (node p r ts) s =
     let e : wants (row_of r.kind) r ≡ [] = ap (λ (z : Row). wants z r) (row_is r.kind) ∙ (ap (λ (z : NodeKind). wants (row_for z) r) q ∙ f r) in
     record {
       own = r;
-      lists = ap (λ (l : List Record). r ∷ l) (empty ts (rw e at s.1));
+      lists = ap (λ (l : List Record). r ∷ l) (ap records_all (no-tree ts (rw e at s.1)));
       names = (p, refl);
       is = own-record w r p _ s.0 u' ∙ ap (λ (z : NodeKind). record_for z r) q;
     }
-  where
-    empty : (us : Forest) → Sounds us [] → records_all us ≡ []
-    empty none h = refl
-    empty (more x xs) h = absurd h
 
 leaf-variable : (t : Tree) → Sound t sort.Variable → Leaf t is.VariableDeclaration
 leaf-variable = lists-leaf sort.Variable is.VariableDeclaration only-variable refl (λ r. refl)
@@ -362,15 +359,11 @@ lists-declaration (node p r ts) s =
     let sq : Sounds ts (wants (row_for q) r) = subst (λ (z : Row). Sounds ts (wants z r)) (row_is r.kind) s.1 in
     by-declaration (λ z. (suits sort.Unknown (row_for z).sort ≡ false → r ≡ record_for z r) → Sounds ts (wants (row_for z) r) →
     list_declaration (make_declaration z (node p r ts)) ≡ r ∷ records_all ts)
-    (λ own h. ap (λ (z : Record). z ∷ []) (sym (own refl)) ∙ ap (λ (l : List Record). r ∷ l) (nothing ts h))
+    (λ own h. ap (λ (z : Record). z ∷ []) (sym (own refl)) ∙ ap (λ (l : List Record). r ∷ l) (sym (ap records_all (no-tree ts h))))
     (λ own h.
     let g = lists-headed ts (natural r.v) h in
     (λ j. rec 25 r.a (pos (g.parameters j)) ∷ g.lists j) ∙ ap (λ (z : Record). z ∷ records_all ts) (sym (own refl)))
     q i (own-record sort.Declaration r p _ s.0) sq
-  where
-    nothing : (us : Forest) → Sounds us [] → [] ≡ records_all us
-    nothing none h = refl
-    nothing (more x xs) h = absurd h
 
 -- What the trees of a program's parts list: k declarations, then its statement.
 record Whole (ts : Forest) (k : ℕ) : Type 0 where
