@@ -1,4 +1,5 @@
--- The table of kinds: what a record of each kind is, the bounds of its fields, and its parts.
+-- The table of kinds: what a record of each kind is, the bounds of its fields, and its parts. The bound of a field is the
+-- largest value that it may have, or none where it may have any.
 use Rattle.std.specs.Prelude.{ℕ, ◌+◌, Bool, true, false, ◌||◌, List, [], ◌∷◌, ◌++◌, replicate, ℤ, pos, negsuc, Some, None, Option, ◌==◌, nat_le, slice_index_or}
 use Rattle.script.specs.declared.record.Record.{Record}
 use Rattle.script.specs.declared.rows.Sort.{Sort}
@@ -20,7 +21,6 @@ use Rattle.script.specs.declared.rows.Parts.{Parts}
 use Rattle.script.specs.declared.rows.Count.{Count}
 use Rattle.script.specs.declared.rows.Count.TheVariants.{Fixed, FieldA, FieldV}
 
--- The bound of a field: the largest value that it may have, or none where it may have any.
 -- a field that holds a name, 0 to 255
 abbrev pub name : Option ℕ
 name = Some 255

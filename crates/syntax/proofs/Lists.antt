@@ -2,7 +2,7 @@
 use Rattle.std.proofs.Common.{◌≡◌, ℕ, zero, suc, ◌+◌, ◌≤◌, Bool, true, false, cond, ◌&&◌, ◌||◌, T, eqb, ltb, ◌⊎◌, List, [], ◌∷◌, ◌++◌, map, length, get_or, take, replicate, ℤ, pos, negsuc, Some, None, Option, Ok, Err, Result, sym, refl, ap, ◌∙◌, subst, inl, inr, append_assoc, append-nil, arith, length-append}
 use Rattle.script.specs.declared.record.Record.{Record}
 use Rattle.script.specs.declared.refusal.Refusal.{Refusal}
-use Rattle.script.specs.declared.refusal.Refusal.TheVariants.{TableSize, FieldOutOfBounds, UnexpectedKind, LeftOver}
+use Rattle.script.specs.declared.refusal.Refusal.TheVariants.{TableSize, LeftOver}
 use Rattle.script.specs.declared.rows.Row.{Row}
 use Rattle.script.specs.declared.rows.Sort.{Sort}
 use Rattle.script.specs.declared.rows.Sort.TheVariants as sort
@@ -21,7 +21,8 @@ use Rattle.syntax.specs.Typed.{make_expression, expression_of, arguments_of, mak
 use Rattle.syntax.specs.Typed.{first_statement, drop_statements, make_declaration, node_kind, declarations_of, program_in, program_of}
 use Rattle.syntax.specs.Listing.{rec, operator_kind, list_expression, list_arguments, list_variables, list_statement, list_statements}
 use Rattle.syntax.specs.Listing.{statement_count, list_parameters, list_declaration, list_declarations, listing, InBounds, Lists}
-use Rattle.syntax.proofs.NodeKinds.{row_for, row_is, suited, by-expression, by-statement, by-declaration, only-variable, only-parameter, only-program}
+use Rattle.syntax.proofs.NodeKinds.{row_for, row_is, fits, suited, by-expression, by-statement, by-declaration, only-variable, only-parameter, only-program}
+use Rattle.syntax.proofs.Forests.{no-tree}
 use Rattle.syntax.proofs.Expressions as expressions
 use Rattle.syntax.proofs.Expressions.{parts_of}
 use Rattle.syntax.proofs.Statements as statements
@@ -107,15 +108,6 @@ clean-value (Some (suc m)) (negsuc n) h = absurd cc
 abbrev record_for : NodeKind → Record → Record
 record_for q r = rec (kind_number q) (clean_name (row_for q).a r.a) (clean_value (row_for q).v r.v)
 
--- A record that fits: its fields are in bounds, and its kind is not the unknown one.
-pub in_bounds : (w : Sort) (r : Record) (p : ℕ) (q : Row) → fitting w r p ≡ Ok q → fields (row_of r.kind) r ≡ true
-in_bounds w r p q e = go (suits w (row_of r.kind).sort) (fields (row_of r.kind) r) e
-  where
-    go : (a b : Bool) → cond a (cond b (Ok (row_of r.kind)) (Err (FieldOutOfBounds p))) (Err (UnexpectedKind p)) ≡ Ok q → b ≡ true
-    go true true z = refl
-    go true false z = absurd cc
-    go false b z = absurd cc
-
 number_is : (r : Record) → suits sort.Unknown (row_for (node_of r.kind)).sort ≡ false → kind_number (node_of r.kind) ≡ r.kind
 number_is r u =
     let h : told r.kind (row_of r.kind) ≡ true = told-kind r.kind in
@@ -125,7 +117,7 @@ number_is r u =
 own-record : (w : Sort) (r : Record) (p : ℕ) (q : Row) → fitting w r p ≡ Ok q →
     suits sort.Unknown (row_for (node_of r.kind)).sort ≡ false → r ≡ record_for (node_of r.kind) r
 own-record w r p q e u =
-    let f : fields (row_for (node_of r.kind)) r ≡ true = ap (λ (z : Row). fields z r) (sym (row_is r.kind)) ∙ in_bounds w r p q e in
+    let f : fields (row_for (node_of r.kind)) r ≡ true = ap (λ (z : Row). fields z r) (sym (row_is r.kind)) ∙ (fits w r p q e).bounded in
     let row : Row = row_for (node_of r.kind) in
     let both = and_parts (within row.a (pos r.a)) (within row.v r.v) f in
     let a : r.a ≡ clean_name row.a r.a = clean-name row.a r.a both.0 in
@@ -204,14 +196,10 @@ lists-leaf w k only u f (node p r ts) s =
     let e : wants (row_of r.kind) r ≡ [] = ap (λ (z : Row). wants z r) (row_is r.kind) ∙ (ap (λ (z : NodeKind). wants (row_for z) r) q ∙ f r) in
     record {
       own = r;
-      lists = ap (λ (l : List Record). r ∷ l) (empty ts (rw e at s.1));
+      lists = ap (λ (l : List Record). r ∷ l) (ap records_all (no-tree ts (rw e at s.1)));
       names = (p, refl);
       is = own-record w r p _ s.0 u' ∙ ap (λ (z : NodeKind). record_for z r) q;
     }
-  where
-    empty : (us : Forest) → Sounds us [] → records_all us ≡ []
-    empty none h = refl
-    empty (more x xs) h = absurd h
 
 leaf-variable : (t : Tree) → Sound t sort.Variable → Leaf t is.VariableDeclaration
 leaf-variable = lists-leaf sort.Variable is.VariableDeclaration only-variable refl (λ r. refl)
@@ -371,15 +359,11 @@ lists-declaration (node p r ts) s =
     let sq : Sounds ts (wants (row_for q) r) = subst (λ (z : Row). Sounds ts (wants z r)) (row_is r.kind) s.1 in
     by-declaration (λ z. (suits sort.Unknown (row_for z).sort ≡ false → r ≡ record_for z r) → Sounds ts (wants (row_for z) r) →
     list_declaration (make_declaration z (node p r ts)) ≡ r ∷ records_all ts)
-    (λ own h. ap (λ (z : Record). z ∷ []) (sym (own refl)) ∙ ap (λ (l : List Record). r ∷ l) (nothing ts h))
+    (λ own h. ap (λ (z : Record). z ∷ []) (sym (own refl)) ∙ ap (λ (l : List Record). r ∷ l) (sym (ap records_all (no-tree ts h))))
     (λ own h.
     let g = lists-headed ts (natural r.v) h in
     (λ j. rec 25 r.a (pos (g.parameters j)) ∷ g.lists j) ∙ ap (λ (z : Record). z ∷ records_all ts) (sym (own refl)))
     q i (own-record sort.Declaration r p _ s.0) sq
-  where
-    nothing : (us : Forest) → Sounds us [] → [] ≡ records_all us
-    nothing none h = refl
-    nothing (more x xs) h = absurd h
 
 -- What the trees of a program's parts list: k declarations, then its statement.
 record Whole (ts : Forest) (k : ℕ) : Type 0 where
@@ -421,7 +405,7 @@ bounds-both (x ∷ xs) ys a b = (a.0, bounds-both xs ys a.1 b)
 
 mutual
   bounded : (t : Tree) (w : Sort) → Sound t w → InBounds (records t)
-  bounded (node p r ts) w s = (in_bounds w r p _ s.0, bounded-all ts (wants (row_of r.kind) r) s.1)
+  bounded (node p r ts) w s = ((fits w r p _ s.0).bounded, bounded-all ts (wants (row_of r.kind) r) s.1)
 
   bounded-all : (ts : Forest) (ws : List Sort) → Sounds ts ws → InBounds (records_all ts)
   bounded-all none ws s = tt

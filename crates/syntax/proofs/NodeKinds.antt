@@ -1,5 +1,6 @@
 -- The row of each kind of record, and the kinds that may stand where a sort is wanted.
 use Rattle.std.proofs.Common.{◌≡◌, ℕ, zero, suc, Bool, true, false, cond, T, List, [], ◌∷◌, map, get_or, Some, Ok, Err, refl, subst}
+use Rattle.std.specs.Bool.{passes}
 use Rattle.script.specs.declared.record.Record.{Record}
 use Rattle.script.specs.declared.refusal.Refusal.TheVariants.{FieldOutOfBounds, UnexpectedKind}
 use Rattle.script.specs.declared.rows.Row.{Row}
@@ -45,13 +46,24 @@ pub row_is : (k : ℕ) → row_of k ≡ row_for (node_of k)
 unfolding row_of
 row_is k = get_or-map rows k
 
--- A record that fits is of the sort that is wanted.
-pub suited : (w : Sort) (r : Record) (p : ℕ) (q : Row) → fitting w r p ≡ Ok q → T (suits w (row_for (node_of r.kind)).sort)
-suited w r p q e = subst (λ (z : Row). T (suits w z.sort)) (row_is r.kind) (go (suits w (row_of r.kind).sort) e)
+-- What it says that a record fits: it is of the sort that is wanted, its fields are in bounds, and the row is its own.
+pub record Fits (w : Sort) (r : Record) (row : Row) : Type 0 where
+  pub suits_it : suits w (row_of r.kind).sort ≡ true
+  pub bounded : fields (row_of r.kind) r ≡ true
+  pub own : row ≡ row_of r.kind
+
+pub fits : (w : Sort) (r : Record) (at : ℕ) (row : Row) → fitting w r at ≡ Ok row → Fits w r row
+fits w r at row e = go (suits w (row_of r.kind).sort) (fields (row_of r.kind) r) refl refl e
   where
-    go : (b : Bool) → cond b (cond (fields (row_of r.kind) r) (Ok (row_of r.kind)) (Err (FieldOutOfBounds p))) (Err (UnexpectedKind p)) ≡ Ok q → T b
-    go true z = tt
-    go false z = absurd cc
+    go : (a b : Bool) → suits w (row_of r.kind).sort ≡ a → fields (row_of r.kind) r ≡ b
+        → cond a (cond b (Ok (row_of r.kind)) (Err (FieldOutOfBounds at))) (Err (UnexpectedKind at)) ≡ Ok row → Fits w r row
+    go true true s f z = record { suits_it = s; bounded = f; own = cc }
+    go true false s f z = absurd cc
+    go false b s f z = absurd cc
+
+-- The same of the row that says its kind.
+pub suited : (w : Sort) (r : Record) (p : ℕ) (q : Row) → fitting w r p ≡ Ok q → T (suits w (row_for (node_of r.kind)).sort)
+suited w r p q e = subst (λ (z : Row). T (suits w z.sort)) (row_is r.kind) (passes _ (fits w r p q e).suits_it)
 
 -- What holds of each kind of expression holds of every kind that suits one, and so on for the other sorts.
 pub by-expression : (P : NodeKind → Type 0) → P is.Number → P is.Variable → ((o : Operator) → P (is.TwoPart o)) →

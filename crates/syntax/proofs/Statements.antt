@@ -16,7 +16,7 @@ use Rattle.syntax.specs.Trees.{Tree, Forest, node, none, more, arity, size, size
 use Rattle.syntax.specs.Typed.{make_statement, expression_of, arguments_of, statement_of, statements_of, variables_in, variable_of}
 use Rattle.syntax.specs.Typed.{first_statement, drop_statements, no_expression, expression_at, statement_at, statements_at, variables_at, second_parts}
 use Rattle.syntax.proofs.NodeKinds.{row_for, row_is, suited, by-statement, Only, only-variable, only-parameter}
-use Rattle.syntax.proofs.Forests.{here, next, long, first-sound}
+use Rattle.syntax.proofs.Forests.{no-tree, one-tree, two-trees, here, next, long, first-sound}
 use Rattle.syntax.proofs.Expressions.{some_size}
 
 -- ---- trees after trees
@@ -139,20 +139,14 @@ wants-are r =
     (λ b. refl) (λ b. refl) (λ b. refl) (λ b. refl) (λ b. absurd (b refl))
 
 no-bodies : (us : Forest) → Sounds us [] → no_statement ≡ statements_of us
-no-bodies none s = refl
-no-bodies (more u us) s = absurd s
+no-bodies us s = sym (ap statements_of (no-tree us s))
 
 one-body : (us : Forest) (w : Sort) → Sounds us (w ∷ []) → then (first_statement (statements_of us)) no_statement ≡ statements_of us
-one-body none w s = absurd s
-one-body (more u none) w s = refl
-one-body (more u (more v vs)) w s = absurd s.1
+one-body us w s = rw (one-tree us w s) refl
 
 two-bodies : (us : Forest) (w z : Sort) → Sounds us (w ∷ z ∷ []) →
     then (first_statement (statements_of us)) (then (first_statement (drop_statements 1 (statements_of us))) no_statement) ≡ statements_of us
-two-bodies none w z s = absurd s
-two-bodies (more u none) w z s = absurd s.1
-two-bodies (more u (more v none)) w z s = refl
-two-bodies (more u (more v (more x xs))) w z s = absurd s.1.1
+two-bodies us w z s = rw (two-trees us w z s) refl
 
 -- A statement made of a tree t and trees us.
 abbrev pub made : NodeKind → ℕ → Record → Tree → Forest → Statement
@@ -223,15 +217,12 @@ stated table at n m d h s b en em =
 
 -- ---- declarations of one record
 
-no_record : (r : Record) (us : Forest) (q : NodeKind) → wants (row_for q) r ≡ [] → Sounds us (wants (row_for q) r) → sizes us ≡ 0
-no_record r none q e s = refl
-no_record r (more u us) q e s = absurd (rw e at s)
-
 -- A tree of a sort whose one kind has no parts is one record.
 leaf : (w : Sort) (k : NodeKind) → Only w k → ((r : Record) → wants (row_for k) r ≡ []) → (t : Tree) → Sound t w → size t ≡ 1
 leaf w k only f (node p r us) s =
     let e : node_of r.kind ≡ k = only (node_of r.kind) (suited w r p _ s.0) in
-    ap suc (no_record r us (node_of r.kind) (ap (λ (z : NodeKind). wants (row_for z) r) e ∙ f r) (rw (row_is r.kind) at s.1))
+    let w : wants (row_of r.kind) r ≡ [] = rw (row_is r.kind, e) (f r) in
+    ap (λ ts. suc (sizes ts)) (no-tree us (rw w at s.1))
 
 pub leaf-variable : (t : Tree) → Sound t VariableSort → size t ≡ 1
 leaf-variable = leaf VariableSort is.VariableDeclaration only-variable (λ r. refl)
