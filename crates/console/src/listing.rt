@@ -45,11 +45,14 @@ pub fn print_code(rt: &impl Print, code: &[Instruction]) -> io::Result<()> {
     Ok(())
 }
 
-// Prints nothing for a table that is refused: the walk tells why.
-pub fn list_code(rt: &(impl Print + AllocGlobal), table: &[Record]) -> anyhow::Result<()> {
+// Gives the number of global variables. Prints nothing for a table that is refused: the walk tells why.
+pub fn list_code(
+    rt: &(impl Print + AllocGlobal),
+    table: &[Record],
+) -> anyhow::Result<Option<usize>> {
     let mut translation = Translation::new(rt.alloc())?;
     if translation.translate(table).is_err() {
-        return Ok(());
+        return Ok(None);
     }
     print_code(rt, translation.code())?;
     for (index, entry) in translation.entries().iter().enumerate() {
@@ -58,5 +61,5 @@ pub fn list_code(rt: &(impl Print + AllocGlobal), table: &[Record]) -> anyhow::R
             entry.start, entry.parameters
         )?;
     }
-    Ok(())
+    Ok(Some(translation.globals().len()))
 }

@@ -3,7 +3,6 @@ use crate::checking::check;
 use crate::listing::list_code;
 use crate::printing::{print_bays, print_list};
 use crate::wording::{Ended, Numbers, print_refusal};
-use names::check::check_table;
 use racks::BayTable;
 use std::io;
 use texts::table::{Settings, TableJob};
@@ -18,7 +17,12 @@ fn print_report(rt: &impl Print, report: Report) -> io::Result<()> {
     println!(rt; "ticks {}", report.ticks)
 }
 
-fn walk_job(rt: &(impl Print + AllocGlobal), job: &TableJob) -> anyhow::Result<()> {
+// Of an accepted table the number of globals is known.
+fn walk_job(
+    rt: &(impl Print + AllocGlobal),
+    job: &TableJob,
+    globals: Option<usize>,
+) -> anyhow::Result<()> {
     let Settings {
         bays,
         limits,
@@ -31,9 +35,7 @@ fn walk_job(rt: &(impl Print + AllocGlobal), job: &TableJob) -> anyhow::Result<(
     match walk(&job.table, &mut names, &mut words, &mut bays, limits) {
         Ok(report) => {
             print_report(rt, report)?;
-            if let Ok(summary) = check_table(&job.table)
-                && let Some(globals) = words.get(..summary.globals)
-            {
+            if let Some(globals) = globals.and_then(|count| words.get(..count)) {
                 print_list(rt, "globals", globals.iter())?;
             }
             print_bays(rt, &bays)?;
@@ -46,8 +48,8 @@ fn walk_job(rt: &(impl Print + AllocGlobal), job: &TableJob) -> anyhow::Result<(
 // Checks the table; then lists its code and walks it.
 pub fn walk_table(rt: &(impl Print + AllocGlobal), text: &str) -> anyhow::Result<()> {
     if let Some(job) = check(rt, text)? {
-        list_code(rt, &job.table)?;
-        walk_job(rt, &job)?;
+        let globals = list_code(rt, &job.table)?;
+        walk_job(rt, &job, globals)?;
     }
     Ok(())
 }

@@ -41,15 +41,19 @@ pub struct Settings {
     pub slices: u32,
 }
 
-// The slices are as long as any accepted table can want: 128 globals, and 64 frames of 100 words.
-const DEFAULTS: Settings = Settings {
-    bays: 16,
-    limits: Limits {
-        fuel: 10000,
-        depth: 63,
-    },
-    slices: 6528,
-};
+impl Default for Settings {
+    // The slices are as long as any accepted table can want: 128 globals, and 64 frames of 100 words.
+    fn default() -> Settings {
+        Settings {
+            bays: 16,
+            limits: Limits {
+                fuel: 10000,
+                depth: 63,
+            },
+            slices: 6528,
+        }
+    }
+}
 
 impl Settings {
     // A method that gives the field as a `&mut` would be the same match, with a borrow besides.
@@ -132,7 +136,7 @@ impl TableReader {
     pub fn new(heap: Global) -> TableReader {
         TableReader {
             records: Vec::new(heap),
-            settings: DEFAULTS,
+            settings: Settings::default(),
             begun: Begun::Nothing,
         }
     }
@@ -196,7 +200,11 @@ mod tests {
         let text = "# none yet\n 1 0 -7 fuel\n9 2 # a variable\n\n\t255 0\n";
         let job = read_text(TableReader::new(rt.alloc()), text)?;
         let limits = Limits { fuel: 9, depth: 63 };
-        assert_eq!(rt; job.settings, Settings { limits, ..DEFAULTS });
+        let wanted = Settings {
+            limits,
+            ..Settings::default()
+        };
+        assert_eq!(rt; job.settings, wanted);
         let table = [
             Record {
                 kind: 1,
