@@ -2,8 +2,8 @@ use crate::{Answer, Call, Cell, State};
 use racks::{BayTable, Rack};
 use script::examples::END_BAY;
 use script::{Ending, Limits, Refusal, RunEnd};
-use std::alloc::{AllocError, Global};
-use std::process::Abort;
+use std::alloc::Global;
+use std::test::Fail;
 
 const LIMITS: Limits = Limits { fuel: 8, depth: 1 };
 
@@ -17,30 +17,23 @@ const WAY: [Call<'static>; 4] = [
 
 // A cell after so many calls of the way, each of which is taken.
 fn cell_after(
-    rt: &impl Abort,
     heap: Global,
     calls: usize,
     words: &mut [i32],
     rack: &mut BayTable,
-) -> Result<Cell, AllocError> {
+) -> Result<Cell, Fail> {
     let mut cell = Cell::new(heap)?;
     for call in WAY.iter().take(calls) {
-        let answer = cell.take(words, rack, *call);
-        assert!(rt; answer.is_ok(), "{answer:?}");
+        cell.take(words, rack, *call)?;
     }
     Ok(cell)
 }
 
 // Whether a call is refused for the state after so many calls of the way, and leaves state, words and bays.
-fn is_refused(
-    rt: &impl Abort,
-    heap: Global,
-    calls: usize,
-    call: Call<'_>,
-) -> Result<bool, AllocError> {
+fn is_refused(heap: Global, calls: usize, call: Call<'_>) -> Result<bool, Fail> {
     let mut words = [9; 7];
     let mut rack = BayTable::new(1);
-    let mut cell = cell_after(rt, heap, calls, &mut words, &mut rack)?;
+    let mut cell = cell_after(heap, calls, &mut words, &mut rack)?;
     let state = cell.state();
     let lent = words;
     let bay = rack.read(0);
@@ -54,29 +47,29 @@ fn is_refused(
 }
 
 // Which of load, compile, arm, run and stop are refused there.
-fn refused(rt: &impl Abort, heap: Global, calls: usize) -> Result<[bool; 5], AllocError> {
+fn refused(heap: Global, calls: usize) -> Result<[bool; 5], Fail> {
     Ok([
-        is_refused(rt, heap, calls, Call::Load(END_BAY))?,
-        is_refused(rt, heap, calls, Call::Compile)?,
-        is_refused(rt, heap, calls, Call::Arm(LIMITS))?,
-        is_refused(rt, heap, calls, Call::Run(1))?,
-        is_refused(rt, heap, calls, Call::Stop)?,
+        is_refused(heap, calls, Call::Load(END_BAY))?,
+        is_refused(heap, calls, Call::Compile)?,
+        is_refused(heap, calls, Call::Arm(LIMITS))?,
+        is_refused(heap, calls, Call::Run(1))?,
+        is_refused(heap, calls, Call::Stop)?,
     ])
 }
 
 #[test]
-fn refusals_by_state(rt: HostRuntime) -> Result<(), AllocError> {
+fn refusals_by_state(rt: HostRuntime) -> Result<(), Fail> {
     let heap = rt.alloc();
-    assert_eq!(rt; refused(&rt, heap, 0)?, [false, true, true, true, true]);
-    assert_eq!(rt; refused(&rt, heap, 1)?, [false, false, true, true, true]);
-    assert_eq!(rt; refused(&rt, heap, 2)?, [false, true, false, true, true]);
-    assert_eq!(rt; refused(&rt, heap, 3)?, [true, true, true, false, false]);
-    assert_eq!(rt; refused(&rt, heap, 4)?, [false, true, false, true, true]);
+    assert_eq!(rt; refused(heap, 0)?, [false, true, true, true, true]);
+    assert_eq!(rt; refused(heap, 1)?, [false, false, true, true, true]);
+    assert_eq!(rt; refused(heap, 2)?, [false, true, false, true, true]);
+    assert_eq!(rt; refused(heap, 3)?, [true, true, true, false, false]);
+    assert_eq!(rt; refused(heap, 4)?, [false, true, false, true, true]);
     Ok(())
 }
 
 #[test]
-fn states_and_answers(rt: HostRuntime) -> Result<(), AllocError> {
+fn states_and_answers(rt: HostRuntime) -> Result<(), Fail> {
     let mut words = [9; 7];
     let mut rack = BayTable::new(3);
     let mut cell = Cell::new(rt.alloc())?;
@@ -99,10 +92,10 @@ fn states_and_answers(rt: HostRuntime) -> Result<(), AllocError> {
 }
 
 #[test]
-fn refused_arms(rt: HostRuntime) -> Result<(), AllocError> {
+fn refused_arms(rt: HostRuntime) -> Result<(), Fail> {
     let mut words = [9; 7];
     let mut rack = BayTable::new(3);
-    let mut cell = cell_after(&rt, rt.alloc(), 2, &mut words, &mut rack)?;
+    let mut cell = cell_after(rt.alloc(), 2, &mut words, &mut rack)?;
     let much = Limits {
         fuel: 1_000_001,
         depth: 1,
@@ -119,10 +112,10 @@ fn refused_arms(rt: HostRuntime) -> Result<(), AllocError> {
 }
 
 #[test]
-fn refused_run(rt: HostRuntime) -> Result<(), AllocError> {
+fn refused_run(rt: HostRuntime) -> Result<(), Fail> {
     let mut words = [9; 7];
     let mut rack = BayTable::new(3);
-    let mut cell = cell_after(&rt, rt.alloc(), 3, &mut words, &mut rack)?;
+    let mut cell = cell_after(rt.alloc(), 3, &mut words, &mut rack)?;
     let lent = words;
     let answer = cell.run(&mut words[..6], &mut rack, 1);
     assert_eq!(rt; answer, Err(Refusal::TooFewWords(7)));

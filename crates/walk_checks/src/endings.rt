@@ -1,9 +1,9 @@
 // How walks end, and what they leave. A bay table holds every word, so no walk ends with 4, "cannot hold".
-use crate::tables;
+use crate::{ensure, tables};
 use racks::{BayTable, Rack};
 use script::examples::END_BAY;
 use script::{Ending, Limits, Record, RunEnd};
-use std::process::Abort;
+use std::test::Fail;
 use walk::{Report, walk};
 
 // What a walk has to come to: its report, the first names, words and bays, and nines behind the names and words.
@@ -32,19 +32,20 @@ impl Wanted {
 }
 
 // A walk over ten names and words, all nine, and some bays, all zero.
-fn check(rt: &impl Abort, table: &[Record], bays: usize, limits: Limits, wanted: Wanted) {
+fn check(table: &[Record], bays: usize, limits: Limits, wanted: Wanted) -> Result<(), Fail> {
     let mut names = [9; 10];
     let mut words = [9; 10];
     let mut rack = BayTable::new(bays);
-    let answer = walk(table, &mut names, &mut words, &mut rack, limits);
-    assert_eq!(rt; answer, Ok(wanted.report()));
-    assert_eq!(rt; &names[..3], wanted.names.as_slice());
-    assert_eq!(rt; &words[..3], wanted.words.as_slice());
-    let rest = (&names[3..], &words[3..]);
-    assert!(rt; rest.0.iter().all(|n| *n == 9) && rest.1.iter().all(|w| *w == 9));
+    let report = walk(table, &mut names, &mut words, &mut rack, limits)?;
+    ensure(report == wanted.report(), "another report")?;
+    ensure(names.starts_with(&wanted.names), "other names")?;
+    ensure(words.starts_with(&wanted.words), "other words")?;
+    ensure(names.iter().skip(3).all(|n| *n == 9), "names behind them")?;
+    ensure(words.iter().skip(3).all(|w| *w == 9), "words behind them")?;
     for (slot, bay) in wanted.bays.iter().enumerate() {
-        assert_eq!(rt; rack.read(slot), *bay);
+        ensure(rack.read(slot) == *bay, "another bay")?;
     }
+    Ok(())
 }
 
 fn limits(fuel: u32, depth: u32) -> Limits {
@@ -55,9 +56,8 @@ const NO_BAYS: [Option<i32>; 3] = [None, None, None];
 
 // The end-bay table: each turn of its while spends two fuel, one of them in a call.
 #[test]
-fn end_bay(rt: HostRuntime) {
+fn end_bay() -> Result<(), Fail> {
     check(
-        &rt,
         END_BAY,
         3,
         limits(8, 1),
@@ -70,9 +70,8 @@ fn end_bay(rt: HostRuntime) {
             words: [4, 9, 9],
             bays: [Some(1), Some(1), Some(1)],
         },
-    );
+    )?;
     check(
-        &rt,
         END_BAY,
         3,
         limits(7, 1),
@@ -85,9 +84,8 @@ fn end_bay(rt: HostRuntime) {
             words: [3, 9, 9],
             bays: [Some(1), Some(1), Some(1)],
         },
-    );
+    )?;
     check(
-        &rt,
         END_BAY,
         3,
         limits(0, 1),
@@ -100,9 +98,8 @@ fn end_bay(rt: HostRuntime) {
             words: [0, 9, 9],
             bays: [Some(0), Some(0), Some(0)],
         },
-    );
+    )?;
     check(
-        &rt,
         END_BAY,
         3,
         limits(1, 0),
@@ -115,9 +112,8 @@ fn end_bay(rt: HostRuntime) {
             words: [0, 9, 9],
             bays: [Some(0), Some(0), Some(0)],
         },
-    );
+    )?;
     check(
-        &rt,
         END_BAY,
         2,
         limits(8, 1),
@@ -130,14 +126,14 @@ fn end_bay(rt: HostRuntime) {
             words: [3, 9, 9],
             bays: [Some(1), Some(1), None],
         },
-    );
+    )?;
+    Ok(())
 }
 
 // Parts run left to right: 1 + 11, and less (2, 4). Dropped parameters stay behind the global.
 #[test]
-fn order(rt: HostRuntime) {
+fn order() -> Result<(), Fail> {
     check(
-        &rt,
         &tables::variable_then_call(),
         0,
         limits(1, 1),
@@ -150,9 +146,8 @@ fn order(rt: HostRuntime) {
             words: [11, 9, 9],
             bays: NO_BAYS,
         },
-    );
+    )?;
     check(
-        &rt,
         &tables::arguments_in_order(),
         0,
         limits(1, 1),
@@ -165,14 +160,14 @@ fn order(rt: HostRuntime) {
             words: [4, 2, 4],
             bays: NO_BAYS,
         },
-    );
+    )?;
+    Ok(())
 }
 
 // A block's locals are dropped and stay behind; a bay holds the least word; a call without a return has the value 0.
 #[test]
-fn values(rt: HostRuntime) {
+fn values() -> Result<(), Fail> {
     check(
-        &rt,
         &tables::block_in_block(),
         0,
         limits(0, 0),
@@ -185,9 +180,8 @@ fn values(rt: HostRuntime) {
             words: [7, 5, 9],
             bays: NO_BAYS,
         },
-    );
+    )?;
     check(
-        &rt,
         &tables::least_word_in_bay(),
         1,
         limits(0, 0),
@@ -200,9 +194,8 @@ fn values(rt: HostRuntime) {
             words: [9, 9, 9],
             bays: [Some(i32::MIN), None, None],
         },
-    );
+    )?;
     check(
-        &rt,
         &tables::call_without_return(),
         0,
         limits(1, 1),
@@ -215,5 +208,6 @@ fn values(rt: HostRuntime) {
             words: [9, 9, 9],
             bays: NO_BAYS,
         },
-    );
+    )?;
+    Ok(())
 }
