@@ -9,9 +9,11 @@ use Rattle.script.specs.declared.rows.Sort.{Sort}
 use Rattle.script.specs.Rows.{row_of, wants}
 use Rattle.syntax.specs.Trees.{Tree, Forest, node, none, more, Sound, Sounds}
 
+-- Two answers of a record's check are equal in one way at most: rows and refusals are.
 fitting-set : IsSet (Result Row Refusal)
 fitting-set = Coded-set (coded_result row.the_row.coded refusal.the_row.coded)
 
+-- Sound is the answer of a record's check, at a tree's head and at each of its parts.
 mutual
   pub Sound-prop : (t : Tree) (w : Sort) → IsProp (Sound t w)
   Sound-prop (node p r ts) w = ×_prop (fitting-set _ _) (Sounds-prop ts (wants (row_of r.kind) r))
