@@ -843,7 +843,7 @@ def call_of(line):
 def read_job(text):
     rack = words = None
     calls = []
-    last = 1
+    last = 0
     for last, found in lines_of(text):
         line = JobLine(last, found)
         if not found:

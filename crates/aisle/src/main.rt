@@ -3,8 +3,12 @@
 
 use anyhow::anyhow;
 use console::{check_table, perform_job, walk_table};
+use std::env;
+use std::io::{BufRead, BufReader};
 use std::process::ExitCode;
-use std::{env, io};
+use texts::LineReader;
+use texts::job::JobReader;
+use texts::table::TableReader;
 
 const HELP: &str = "aisle: standard input is a job, one call a line; # begins a comment
   rack bays N | rack occupancy N | rack rail W W ..   the first line
@@ -14,17 +18,21 @@ aisle check: standard input is a node table, three numbers a record; its shape i
 aisle walk: the same, then its code, and a walk over a bay table; bays N, fuel N, depth N and slices N may stand between records
 aisle help: this text";
 
-fn input(rt: &HostRuntime) -> io::Result<String> {
-    io::read_to_string(rt.alloc(), rt.stdin())
+// Line by line: the first line that cannot be read is told at once, and no more of the text is held than one line.
+fn read_input<R: LineReader>(rt: &HostRuntime, mut reader: R) -> anyhow::Result<R::Text> {
+    for line in BufReader::new(rt.alloc(), rt.stdin())?.lines(rt.alloc()) {
+        reader.take_line(line?.as_str())?;
+    }
+    Ok(reader.finish()?)
 }
 
 fn run(rt: &HostRuntime) -> anyhow::Result<()> {
     let Some(word) = env::args(rt)?.nth(1) else {
-        return perform_job(rt, &input(rt)?);
+        return perform_job(rt, read_input(rt, JobReader::new(rt.alloc()))?);
     };
     match word.as_str() {
-        "check" => check_table(rt, &input(rt)?),
-        "walk" => walk_table(rt, &input(rt)?),
+        "check" => check_table(rt, read_input(rt, TableReader::new(rt.alloc()))?),
+        "walk" => walk_table(rt, read_input(rt, TableReader::new(rt.alloc()))?),
         "help" => Ok(rt.println(HELP)?),
         _ => Err(anyhow!("the argument is check, walk or help, or there is none")),
     }

@@ -29,7 +29,7 @@ impl Cell {
         limits.check()?;
         self.check_words(limits.depth, words.len())?;
         write_literals(self.translation.globals(), words);
-        self.machine = Machine::new(self.globals(), limits);
+        self.machine = Machine::new(self.globals(), limits.depth as usize, limits.fuel);
         self.fuel = limits.fuel;
         self.steps = 0;
         self.end = None;

@@ -10,7 +10,7 @@ ghost use Rattle.cell.specs.Showing.{shown};
 use crate::calls::State;
 use crate::memory::Cell;
 use machine::state::Machine;
-use script::{Limits, Record, Refusal, check_shape};
+use script::{Record, Refusal, check_shape};
 use std::alloc::{AllocError, Global};
 use translator::Translation;
 
@@ -24,7 +24,7 @@ impl Cell {
             table: Vec::with_capacity(heap, 1024)?,
             translation: Translation::new(heap)?,
             need: 0,
-            machine: Machine::new(0, Limits { fuel: 0, depth: 0 }),
+            machine: Machine::new(0, 0, 0),
             fuel: 0,
             steps: 0,
             end: None,

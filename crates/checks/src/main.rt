@@ -5,6 +5,9 @@
 use anyhow::anyhow;
 use console::{check_table, perform_job, walk_table};
 use std::io;
+use texts::job::JobReader;
+use texts::read_text;
+use texts::table::TableReader;
 
 // The modes are words of this input: `aisle` has no word for a job.
 fn print_case(
@@ -13,9 +16,9 @@ fn print_case(
     text: &str,
 ) -> anyhow::Result<()> {
     match mode {
-        "job" => perform_job(rt, text),
-        "check" => check_table(rt, text),
-        "walk" => walk_table(rt, text),
+        "job" => perform_job(rt, read_text(JobReader::new(rt.alloc()), text)?),
+        "check" => check_table(rt, read_text(TableReader::new(rt.alloc()), text)?),
+        "walk" => walk_table(rt, read_text(TableReader::new(rt.alloc()), text)?),
         _ => Err(anyhow!("a case begins with == job, == check or == walk")),
     }
 }

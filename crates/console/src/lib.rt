@@ -1,5 +1,5 @@
-// What the controller's programs do with a text: make the calls of a job, or check or walk a node table, and print what
-// comes of it. The programs have no errors of their own, so what goes wrong is an `anyhow::Error` here already.
+// What the controller's programs do with a text that was read: make the calls of a job, or check or walk a node table, and
+// print what comes of it. The programs have no errors of their own, so what goes wrong is an `anyhow::Error` here already.
 #![tactic(auto)]
 
 mod checking;

@@ -5,26 +5,25 @@ use crate::wording::{Ended, Explained, Numbers};
 use cell::{Answer, Call, Cell, State};
 use kinds::NumberKind;
 use racks::{BayTable, OccupancyRack, Rack, RailRack};
-use script::{Ending, Refusal};
+use script::{Ending, Record, Refusal};
 use std::{fmt, io};
-use texts::job::{CallLine, Job, JobReader, RackChoice};
-use texts::read_text;
+use texts::job::{CallLine, Job, RackChoice};
 
-// By hand, since a `From` would stand in a crate of one of the two types.
-fn call_of(line: &CallLine) -> Call<'_> {
+// By hand, since a `From` would stand in a crate of one of the two types, and has no records beside the line.
+fn call_of(records: &[Record], line: CallLine) -> Call<'_> {
     match line {
-        CallLine::Load(table) => Call::Load(table.as_slice()),
+        CallLine::Load { from, to } => Call::Load(records.get(from..to).unwrap_or(&[])),
         CallLine::Compile => Call::Compile,
-        CallLine::Arm(limits) => Call::Arm(*limits),
-        CallLine::Run(steps) => Call::Run(*steps),
+        CallLine::Arm(limits) => Call::Arm(limits),
+        CallLine::Run(steps) => Call::Run(steps),
         CallLine::Stop => Call::Stop,
     }
 }
 
 // How the console calls it: a word of the output, and no wording of the type's own crate.
-fn name_of(line: &CallLine) -> &'static str {
+fn name_of(line: CallLine) -> &'static str {
     match line {
-        CallLine::Load(_) => "load",
+        CallLine::Load { .. } => "load",
         CallLine::Compile => "compile",
         CallLine::Arm(_) => "arm",
         CallLine::Run(_) => "run",
@@ -66,15 +65,17 @@ fn state_name(state: State) -> &'static str {
 // Makes the calls, and prints each answer.
 fn make_calls<R: Rack>(
     rt: &(impl Print + Eprint + AllocGlobal),
+    records: &[Record],
     lines: &[CallLine],
     words: &mut [R::Word],
     rack: &mut R,
 ) -> anyhow::Result<Cell> {
     let mut cell = Cell::new(rt.alloc())?;
-    let calls = lines.iter().map(call_of).collect::<Vec<_>>(rt.alloc())?;
+    let calls = lines.iter().map(|line: &CallLine| call_of(records, *line));
+    let calls = calls.collect::<Vec<_>>(rt.alloc())?;
     let answers = cell.perform(rt.alloc(), words, rack, &calls)?;
     for (line, answer) in lines.iter().zip(answers.iter()) {
-        print_answer(rt, name_of(line), *answer)?;
+        print_answer(rt, name_of(*line), *answer)?;
     }
     Ok(cell)
 }
@@ -106,12 +107,13 @@ fn print_run<W: fmt::Display>(rt: &impl Print, cell: &Cell, words: &[W]) -> io::
 // Makes the calls over this rack and so many words, and prints what is then held.
 fn perform<W: NumberKind + Copy + fmt::Display, R: Rack<Word = W>>(
     rt: &(impl Print + Eprint + AllocGlobal),
+    records: &[Record],
     lines: &[CallLine],
     count: usize,
     rack: &mut R,
 ) -> anyhow::Result<()> {
     let mut words = vec![in rt.alloc(); W::literal(0); count]?;
-    let cell = make_calls(rt, lines, &mut words, rack)?;
+    let cell = make_calls(rt, records, lines, &mut words, rack)?;
     print_cell(rt, &cell)?;
     print_run(rt, &cell, &words)?;
     print_bays(rt, rack)?;
@@ -119,13 +121,29 @@ fn perform<W: NumberKind + Copy + fmt::Display, R: Rack<Word = W>>(
     Ok(())
 }
 
-pub fn perform_job(rt: &(impl Print + Eprint + AllocGlobal), text: &str) -> anyhow::Result<()> {
-    let Job { rack, words, calls } = read_text(JobReader::new(rt.alloc()), text)?;
+pub fn perform_job(rt: &(impl Print + Eprint + AllocGlobal), job: Job) -> anyhow::Result<()> {
+    let Job {
+        rack,
+        mut lengths,
+        words,
+        records,
+        calls,
+    } = job;
     match rack {
-        RackChoice::Bays(count) => perform(rt, &calls, words, &mut BayTable::new(count)),
-        RackChoice::Occupancy(count) => perform(rt, &calls, words, &mut OccupancyRack::new(count)),
-        RackChoice::Rail(mut lengths) => {
-            perform(rt, &calls, words, &mut RailRack::new(&mut lengths))
+        RackChoice::Bays(count) => {
+            perform(rt, &records, &calls, words, &mut BayTable::new(count))
+        }
+        RackChoice::Occupancy(count) => {
+            perform(rt, &records, &calls, words, &mut OccupancyRack::new(count))
+        }
+        RackChoice::Rail => {
+            perform(
+                rt,
+                &records,
+                &calls,
+                words,
+                &mut RailRack::new(&mut lengths),
+            )
         }
     }
 }

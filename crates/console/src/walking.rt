@@ -46,8 +46,8 @@ fn walk_job(
 }
 
 // Checks the table; then lists its code and walks it.
-pub fn walk_table(rt: &(impl Print + AllocGlobal), text: &str) -> anyhow::Result<()> {
-    if let Some(job) = check(rt, text)? {
+pub fn walk_table(rt: &(impl Print + AllocGlobal), job: TableJob) -> anyhow::Result<()> {
+    if check(rt, &job.table)? {
         let globals = list_code(rt, &job.table)?;
         walk_job(rt, &job, globals)?;
     }

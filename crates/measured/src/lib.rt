@@ -4,7 +4,6 @@
 use code::instruction::{Code, Instruction, Operation};
 use machine::state::Machine;
 use racks::BayTable;
-use script::Limits;
 
 // while (1 > 0) { i = i + 1; bay(0) = i; }: seventeen instructions for each fuel, until the fuel is spent.
 #[rattlefmt::skip]
@@ -34,7 +33,7 @@ const COUNTING: &[Instruction; 19] = &[
 pub fn tuzsompa_counting_steps(fuel: u32, steps: u32) -> u32 {
     let mut words = [0i32; 16];
     let mut bays = BayTable::new(1);
-    let mut machine = Machine::new(1, Limits { fuel, depth: 0 });
+    let mut machine = Machine::new(1, 0, fuel);
     let code = Code {
         instructions: COUNTING,
         entries: &[],

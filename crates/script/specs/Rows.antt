@@ -37,9 +37,9 @@ any = None
 abbrev pub several : Count → Sort → Parts
 several n s = record { count = n; sort = s }
 
--- no parts at all, which are no expressions
+-- no parts at all, of no sort that a record has
 abbrev pub none : Parts
-none = several (Fixed 0) Expression
+none = several (Fixed 0) Unknown
 
 -- one part of a sort
 abbrev pub one : Sort → Parts

@@ -114,10 +114,10 @@ const ANY: Option<u16> = None;
 
 const ARGUMENTS: Option<u16> = Some(15);
 
-// No parts at all are no expressions.
+// Parts that there are none of are of no sort that a record has.
 const NO_PARTS: Parts = Parts {
     count: Count::Fixed(0),
-    sort: Sort::Expression,
+    sort: Sort::Unknown,
 };
 
 const ONE_EXPRESSION: Parts = Parts {

@@ -3,14 +3,14 @@ use std::alloc::AllocError;
 use thiserror::Error;
 
 // What can be wrong with a text of one sort.
-pub trait TextProblem: std::error::Error {
+pub trait TextProblem: std::error::Error + Copy {
     // what a text of this sort is
     const SORT: &'static str;
 }
 
-#[derive(PartialEq, Eq, Debug, Drop, Error)]
+#[derive(Clone, Copy, PartialEq, Eq, Debug, Error)]
 pub enum TextError<P: TextProblem> {
-    // a problem, and the line that has it, counted from 1
+    // a problem, and the line that has it, counted from 1; 0 where the text has none
     #[error("line {line}: {problem}")]
     Fault { line: usize, problem: P },
     #[error("there is not enough memory for the {sort}", sort = P::SORT)]

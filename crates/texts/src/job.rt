@@ -35,18 +35,19 @@ impl TextProblem for JobProblem {
 
 pub type JobError = TextError<JobProblem>;
 
-// Which rack the job runs over: how many bays it has, or the words in a rail rack's bays.
-#[derive(PartialEq, Debug, Drop)]
+// Which rack the job runs over: how many bays it has. A rail rack's words are kept apart, so that a choice is copied.
+#[derive(Clone, Copy, PartialEq, Eq, Debug)]
 pub enum RackChoice {
     Bays(usize),
     Occupancy(usize),
-    Rail(Vec<f64>),
+    Rail,
 }
 
-// One call. It owns what the cell's `Call` borrows, as a `String` owns what a `&str` borrows.
-#[derive(PartialEq, Eq, Debug, Drop)]
+// One call. A table is a part of the records read, by where it begins and ends: a call is copied, and however many
+// tables a job loads, their records lie in one vector.
+#[derive(Clone, Copy, PartialEq, Eq, Debug)]
 pub enum CallLine {
-    Load(Vec<Record>),
+    Load { from: usize, to: usize },
     Compile,
     Arm(Limits),
     Run(u32),
@@ -57,27 +58,36 @@ pub enum CallLine {
 #[derive(Drop)]
 pub struct Job {
     pub rack: RackChoice,
+    // the words in a rail rack's bays; none for the others
+    pub lengths: Vec<f64>,
     // how many words there are
     pub words: usize,
+    // of all tables that are loaded
+    pub records: Vec<Record>,
     pub calls: Vec<CallLine>,
 }
 
 // What was read so far; `None` where it was not read yet.
 #[derive(Drop)]
 pub struct JobReader {
-    heap: Global,
     rack: Option<RackChoice>,
+    lengths: Vec<f64>,
     words: Option<usize>,
+    records: Vec<Record>,
     calls: Vec<CallLine>,
+    // the number of the last line
+    line: usize,
 }
 
 impl JobReader {
     pub fn new(heap: Global) -> JobReader {
         JobReader {
-            heap,
             rack: None,
+            lengths: Vec::new(heap),
             words: None,
+            records: Vec::new(heap),
             calls: Vec::new(heap),
+            line: 0,
         }
     }
 }
@@ -88,27 +98,30 @@ impl LineReader for JobReader {
     type Problem = JobProblem;
 
     // A line without words says nothing.
-    fn take_line(&mut self, number: usize, text: &str) -> Result<(), JobError> {
-        let Some(line) = Line::of(number, text) else {
+    fn take_line(&mut self, text: &str) -> Result<(), JobError> {
+        self.line = self.line.saturating_add(1);
+        let Some(line) = Line::of(self.line, text) else {
             return Ok(());
         };
         if self.rack.is_none() {
-            self.rack = Some(line.rack(self.heap)?);
+            self.rack = Some(line.rack(&mut self.lengths)?);
         } else if self.words.is_none() {
             self.words = Some(line.words()?);
         } else {
-            self.calls.push(line.call(self.heap)?)?;
+            self.calls.push(line.call(&mut self.records)?)?;
         }
         Ok(())
     }
 
-    fn finish(self) -> Result<Job, JobProblem> {
+    fn finish(self) -> Result<Job, JobError> {
         let (Some(rack), Some(words)) = (self.rack, self.words) else {
-            return Err(JobProblem::TooShort);
+            return Err(fault(self.line, JobProblem::TooShort));
         };
         Ok(Job {
             rack,
+            lengths: self.lengths,
             words,
+            records: self.records,
             calls: self.calls,
         })
     }
@@ -148,23 +161,23 @@ impl<'a> Line<'a> {
         number.ok_or(fault(self.number, JobProblem::BadNumber))
     }
 
-    fn rack(mut self, heap: Global) -> Result<RackChoice, JobError> {
+    fn rack(mut self, lengths: &mut Vec<f64>) -> Result<RackChoice, JobError> {
         let rack = match (self.first, self.rest.next()) {
             ("rack", Some("bays")) => RackChoice::Bays(self.take_number()? as usize),
             ("rack", Some("occupancy")) => RackChoice::Occupancy(self.take_number()? as usize),
-            ("rack", Some("rail")) => return Ok(RackChoice::Rail(self.lengths(heap)?)),
+            ("rack", Some("rail")) => return self.rail(lengths),
             _ => return Err(fault(self.number, JobProblem::NoRack)),
         };
         self.end(JobProblem::NoRack)?;
         Ok(rack)
     }
 
-    fn lengths(self, heap: Global) -> Result<Vec<f64>, JobError> {
-        let lengths = self.rest.map(|word| {
-            word.parse::<f64>()
-                .map_err(|_| fault(self.number, JobProblem::BadNumber))
-        });
-        lengths.try_collect(heap)
+    fn rail(self, lengths: &mut Vec<f64>) -> Result<RackChoice, JobError> {
+        for word in self.rest {
+            let length = word.parse::<f64>();
+            lengths.push(length.map_err(|_| fault(self.number, JobProblem::BadNumber))?)?;
+        }
+        Ok(RackChoice::Rail)
     }
 
     fn words(mut self) -> Result<usize, JobError> {
@@ -176,9 +189,9 @@ impl<'a> Line<'a> {
         Ok(words)
     }
 
-    fn call(mut self, heap: Global) -> Result<CallLine, JobError> {
+    fn call(mut self, records: &mut Vec<Record>) -> Result<CallLine, JobError> {
         let call = match self.first {
-            "load" => return Ok(CallLine::Load(self.records(heap)?)),
+            "load" => return self.load(records),
             "compile" => CallLine::Compile,
             "arm" => CallLine::Arm(Limits {
                 fuel: self.take_number()?,
@@ -192,14 +205,15 @@ impl<'a> Line<'a> {
         Ok(call)
     }
 
-    fn records(self, heap: Global) -> Result<Vec<Record>, JobError> {
+    fn load(self, records: &mut Vec<Record>) -> Result<CallLine, JobError> {
+        let from = records.len();
         let mut rest = self.rest;
-        let mut records = Vec::new(heap);
         while let Some(kind) = rest.next() {
             let record = record_of(kind, rest.next(), rest.next());
             records.push(record.ok_or(fault(self.number, JobProblem::BadRecord))?)?;
         }
-        Ok(records)
+        let to = records.len();
+        Ok(CallLine::Load { from, to })
     }
 }
 
@@ -222,8 +236,8 @@ mod tests {
         let text =
             "# none yet\n\nrack rail 1 -2.5 # two\n\twords 3\nload 1 0 -7  255 65535 2\nload\ncompile\narm 8 1\nrun 4294967295\nstop";
         let job = read_text(JobReader::new(rt.alloc()), text)?;
-        let lengths = [1.0, -2.5].to_vec(rt.alloc())?;
-        assert_eq!(rt; job.rack, RackChoice::Rail(lengths));
+        assert_eq!(rt; job.rack, RackChoice::Rail);
+        assert_eq!(rt; job.lengths.as_slice(), [1.0, -2.5].as_slice());
         assert_eq!(rt; job.words, 3);
         let table = [
             Record {
@@ -236,12 +250,12 @@ mod tests {
                 a: 65535,
                 v: 2,
             },
-        ]
-        .to_vec(rt.alloc())?;
+        ];
+        assert_eq!(rt; job.records.as_slice(), table.as_slice());
         let limits = Limits { fuel: 8, depth: 1 };
         let wanted = [
-            CallLine::Load(table),
-            CallLine::Load(Vec::new(rt.alloc())),
+            CallLine::Load { from: 0, to: 2 },
+            CallLine::Load { from: 2, to: 2 },
             CallLine::Compile,
             CallLine::Arm(limits),
             CallLine::Run(4294967295),
@@ -298,7 +312,7 @@ mod tests {
                 JobProblem::BadRecord,
             ),
             ("rack bays 3\n# end", 2, JobProblem::TooShort),
-            ("", 1, JobProblem::TooShort),
+            ("", 0, JobProblem::TooShort),
         ] {
             let found = read_text(JobReader::new(rt.alloc()), text).err();
             assert_eq!(rt; found, Some(fault(line, problem)), "{text}");

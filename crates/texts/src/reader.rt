@@ -1,17 +1,18 @@
 // Reading a text line by line.
-use crate::error::{TextError, TextProblem, fault};
+use crate::error::{TextError, TextProblem};
 
-// What reads the texts of one sort, and keeps what was read so far.
+// What reads the texts of one sort, and keeps what was read so far. It counts the lines, so that whoever has a text
+// line by line, as from standard input, need not hold the whole of it.
 pub trait LineReader: Drop {
     type Text;
 
     type Problem: TextProblem;
 
-    // One line of the text, without its end. Lines are counted from 1.
-    fn take_line(&mut self, number: usize, text: &str) -> Result<(), TextError<Self::Problem>>;
+    // The next line of the text, without its end.
+    fn take_line(&mut self, text: &str) -> Result<(), TextError<Self::Problem>>;
 
-    // What was read, or what it still lacks where the text ends here.
-    fn finish(self) -> Result<Self::Text, Self::Problem>;
+    // What was read, where the text may end here.
+    fn finish(self) -> Result<Self::Text, TextError<Self::Problem>>;
 }
 
 // A whole text.
@@ -19,13 +20,10 @@ pub fn read_text<R: LineReader>(
     mut reader: R,
     text: &str,
 ) -> Result<R::Text, TextError<R::Problem>> {
-    // what an empty text lacks, its first line lacks
-    let mut last = 1;
-    for (index, line) in text.lines().enumerate() {
-        last = index + 1;
-        reader.take_line(last, line)?;
+    for line in text.lines() {
+        reader.take_line(line)?;
     }
-    reader.finish().map_err(|problem| fault(last, problem))
+    reader.finish()
 }
 
 // What stands before a `#`.

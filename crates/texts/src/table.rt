@@ -124,12 +124,13 @@ where
     N::try_from(number).map_err(|_| fault(line, out_of_range))
 }
 
-// The records read so far, the settings, and what is begun.
+// The records read so far, the settings, what is begun, and the number of the last line.
 #[derive(Drop)]
 pub struct TableReader {
     records: Vec<Record>,
     settings: Settings,
     begun: Begun,
+    line: usize,
 }
 
 impl TableReader {
@@ -138,10 +139,12 @@ impl TableReader {
             records: Vec::new(heap),
             settings: Settings::default(),
             begun: Begun::Nothing,
+            line: 0,
         }
     }
 
-    fn take_word(&mut self, line: usize, word: &str) -> Result<(), TableError> {
+    fn take_word(&mut self, word: &str) -> Result<(), TableError> {
+        let line = self.line;
         self.begun = match self.begun {
             Begun::Nothing => match word.parse() {
                 Ok(setting) => Begun::Setting(setting),
@@ -170,17 +173,18 @@ impl LineReader for TableReader {
 
     type Problem = TableProblem;
 
-    fn take_line(&mut self, number: usize, text: &str) -> Result<(), TableError> {
+    fn take_line(&mut self, text: &str) -> Result<(), TableError> {
+        self.line = self.line.saturating_add(1);
         for word in without_comment(text).split_whitespace() {
-            self.take_word(number, word)?;
+            self.take_word(word)?;
         }
         Ok(())
     }
 
     // The text must not end within a record or a setting.
-    fn finish(self) -> Result<TableJob, TableProblem> {
+    fn finish(self) -> Result<TableJob, TableError> {
         let Begun::Nothing = self.begun else {
-            return Err(TableProblem::Incomplete);
+            return Err(fault(self.line, TableProblem::Incomplete));
         };
         Ok(TableJob {
             table: self.records,

@@ -32,8 +32,8 @@ impl Emitter<'_, '_> {
         ensures leave { self.new.leave ≡ self.old.leave }
         ensures loans { SameLoans self.old self.new }
     {
-        self.bind(count, at);
         for node in &self.context.table.records[at..at + count] {
+            self.scope.push(node.a);
             self.append(Operation::Lit(node.v), place);
         }
     }

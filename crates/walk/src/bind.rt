@@ -2,6 +2,7 @@
 // record of both clauses would be put together again by each caller, for no fewer words.
 ghost use Rattle.std.specs.Prelude.{◌≡◌, ◌+◌, ◌<◌, ◌≤◌, map, reverse, length};
 ghost use Rattle.kinds.specs.Counter.{counter};
+ghost use Rattle.script.specs.declared.record.Record.{Record};
 ghost use Rattle.syntax.specs.Syntax.{name_of};
 ghost use Rattle.syntax.specs.Trees.{pieces, Leaves};
 ghost use Rattle.syntax.specs.Typed.{variables_at};
@@ -10,6 +11,21 @@ ghost use Rattle.walk.specs.Lent.{lent_in, state, pushed, Same, Bound};
 
 use crate::walker::Walker;
 use script::Record;
+
+// The names and words that records declare, one a place. By an index, as in an argument list; out of line, so that a
+// nested block takes little room for this loop.
+#[inline(never)]
+fn write_variables(nodes: &[Record], names: &mut [u16], words: &mut [i32])
+    requires names { length names.old ≡ length nodes.now }
+    requires words { length words.old ≡ length nodes.now }
+    ensures names { names.new ≡ map (λ (node : Record). node.a) nodes.now }
+    ensures words { words.new ≡ map (λ (node : Record). node.v) nodes.now }
+{
+    for (i, node) in nodes.iter().enumerate() {
+        names[i] = node.a;
+        words[i] = node.v;
+    }
+}
 
 impl<'a> Walker<'a> {
     // One binding.
@@ -50,9 +66,12 @@ impl<'a> Walker<'a> {
         ensures same { Same self.old self.new }
     {
         let table = self.table;
-        for node in &table[at..at + count] {
-            self.declare_one(*node);
-        }
+        let top = self.bound;
+        let end = top + count;
+        let names = &mut self.names[top..end];
+        let words = &mut self.words[top..end];
+        write_variables(&table[at..at + count], names, words);
+        self.bound = end;
     }
 
     // The parameters declared by the records from `at`, with the words given.

@@ -1,6 +1,7 @@
 // The walk of expressions, argument lists, calls, statements, whiles and blocks, each of which calls others.
-ghost use Rattle.std.specs.Prelude.{◌≤◌, [], reverse, length, take};
+ghost use Rattle.std.specs.Prelude.{◌≡◌, ◌≤◌, [], reverse, length, get_or, take};
 ghost use Rattle.script.specs.declared.rows.NodeKind.TheVariants as is;
+ghost use Rattle.syntax.specs.Trees.{no_record};
 ghost use Rattle.walk.specs.Lent.{Same};
 ghost use Rattle.walk.specs.Ready.{Is};
 ghost use Rattle.walk.specs.Parts.{ExpressionAhead, ArgumentsAhead, StatementAhead, StatementsAhead, ExpressionWalked, ArgumentsWalked, StatementWalked, StatementsWalked};
@@ -38,7 +39,7 @@ impl<'a> Walker<'a> {
                 Ok(Valued { word, next: at + 1 })
             }
             NodeKind::TwoPart(operator) => self.binary(operator, at, opened),
-            NodeKind::Assignment => self.assignment(at, opened),
+            NodeKind::Assignment => self.assignment(node.a, at, opened),
             NodeKind::Call => self.call(at, opened),
             NodeKind::BayRead => self.read(at, opened),
             NodeKind::BayWrite => self.write(at, opened),
@@ -68,13 +69,13 @@ impl<'a> Walker<'a> {
     // The name's newest binding gets the word.
     #[cycle(walk)]
     #[inline(never)]
-    fn assignment(&mut self, at: usize, opened: usize) -> Result<Valued, Stop>
+    fn assignment(&mut self, name: u16, at: usize, opened: usize) -> Result<Valued, Stop>
         requires ready { ExpressionAhead self.old opened at }
         requires kind { Is is.Assignment self.old.table.now at }
+        requires named { name ≡ (get_or self.old.table.now at no_record).a }
         ensures ran { ExpressionWalked self.old self.new opened at result }
         ensures same { Same self.old self.new }
     {
-        let name = self.table[at].a;
         let value = self.expression(at + 1, opened)?;
         self.assign(name, value.word);
         Ok(value)

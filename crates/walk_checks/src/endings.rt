@@ -1,35 +1,11 @@
 // How walks end, and what they leave. A bay table holds every word, so no walk ends with 4, "cannot hold".
+use crate::wanted::Wanted;
 use crate::{ensure, tables};
 use racks::{BayTable, Rack};
 use script::examples::END_BAY;
-use script::{Ending, Limits, Record, RunEnd};
+use script::{Ending, Limits, Record};
 use std::test::Fail;
-use walk::{Report, walk};
-
-// What a walk has to come to: its report, the first names, words and bays, and nines behind the names and words.
-#[derive(Clone, Copy)]
-struct Wanted {
-    ending: Ending,
-    place: usize,
-    answer: Option<i32>,
-    ticks: u32,
-    names: [u16; 3],
-    words: [i32; 3],
-    bays: [Option<i32>; 3],
-}
-
-impl Wanted {
-    fn report(&self) -> Report {
-        Report {
-            end: RunEnd {
-                ending: self.ending,
-                place: self.place,
-            },
-            answer: self.answer,
-            ticks: self.ticks,
-        }
-    }
-}
+use walk::walk;
 
 // A walk over ten names and words, all nine, and some bays, all zero.
 fn check(table: &[Record], bays: usize, limits: Limits, wanted: Wanted) -> Result<(), Fail> {
